@@ -1,2 +1,3 @@
-pub mod ObjectLaws
+pub mod SectionSearches
 pub mod ResultLaws
+pub mod StaleLaws

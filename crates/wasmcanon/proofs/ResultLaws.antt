@@ -3,8 +3,10 @@ use Rattle.std.proofs.Common.{refl, sym, subst, ◌≡◌, ◌∙◌, ℕ, Bool,
 use Rattle.std.proofs.lemmas.Bool.{true≢false}
 use Rattle.std.specs.Global.{Vec}
 use Rattle.std.specs.Prelude.{IfSome}
-use Rattle.wasm_codec.specs.Decoding.{Checks, NormalisesInPlace}
-use Rattle.wasm_codec.specs.Outcomes.{place_alone}
+use Rattle.wasm_codec.specs.Decoding.{Checks, NormalisesInPlace, RewritesInPlace}
+use Rattle.wasm_codec.specs.Outcomes.{as_read, place_alone}
+use Rattle.wasm_codec.specs.declared.reader.DecodeError.{DecodeError}
+use Rattle.wasm_codec.specs.declared.reader.DecodeError.TheVariants as decode_errors
 use Rattle.wasm_codec.specs.declared.reader.refusal.Refusal.{Refusal}
 use Rattle.wasm_modules.specs.RefusalNumbers.{CountsParts}
 use Rattle.wasm_codec.specs.formats.Combinators.{minimal_only}
@@ -18,6 +20,7 @@ use Rattle.wasm_modules.specs.declared.order.ModuleError.{ModuleError}
 use Rattle.wasm_modules.specs.ModuleOrder.{OfModule, IsWhyNot}
 use Rattle.wasm_modules.specs.ModuleOrder as order
 use Rattle.wasmcanon.specs.Run.{Accepts, HasContents, HasLongerContents, IsCanonicalForm, IsForm, IsLonger, IsReadFailure, Judges}
+use Rattle.wasmcanon.specs.declared.foreign.Foreign.{Foreign}
 use Rattle.wasmcanon.specs.declared.order.MisplacedSection.{MisplacedSection}
 use Rattle.wasmcanon.specs.declared.run.FormOptions.{FormOptions}
 use Rattle.wasmcanon.specs.declared.run.Verdict.{Verdict}
@@ -71,6 +74,14 @@ pub placed : (bytes : List ℕ) (refusal : Refusal) → CountsParts module_secti
 placed bytes refusal c = record { sections = c.sections; items = c.items }
 
 -- ---- inputs that are accepted or refused
+
+-- a module that was refused while its sections were shown
+pub shown_refused : (input old new : List ℕ) (result : Result ℕ DecodeError) (refusal : Refusal) (foreign : Option Foreign) → old ≡ input → result ≡ Err (decode_errors.Malformed refusal) → RewritesInPlace whole_module (IsModulePrefixOf module_section) old new (as_read result) → Accepts true input (Err (failures.Refused refusal foreign))
+shown_refused input old new result refusal foreign same is rewrites =
+    let failed : Result ℕ DecodeError = Err (decode_errors.Malformed refusal) in
+    let refused = subst (λ (r : Result ℕ DecodeError). RewritesInPlace whole_module (IsModulePrefixOf module_section) old new (as_read r)) is rewrites in
+    let here = subst (λ (bytes : List ℕ). RewritesInPlace whole_module (IsModulePrefixOf module_section) bytes new (as_read failed)) same refused in
+    record { in_order = λ _. tt; disordered = tt; unencoded = record { none = here.unencoded }; refused = here.prefix }
 
 -- a run that fails to read refuses nothing
 pub failed_to_read : (any_order : Bool) (input : List ℕ) (failure : Failure) → IsReadFailure failure → Accepts any_order input (Err failure)

@@ -1,20 +1,76 @@
 //! Custom sections that keep offsets into the module. Once bytes have moved, these offsets are stale.
+ghost use Rattle.std.specs.Prelude.{◌≡◌, ◌⊎◌, ℕ, [], false, List, IfOk, IfSome, IfNone};
+ghost use Rattle.wasm_code.specs.formats.Sections.{parts_of};
+ghost use Rattle.wasm_modules.specs.Offsets.{IsNameOf, IsOffsetName};
+ghost use Rattle.wasmcanon.specs.Objects.{OfRawSections};
+ghost use Rattle.wasmcanon.specs.StaleSections.{AreOffsetNames, KeepsNoOffsets, NamesOffsets};
+
 use std::alloc::{AllocError, Global};
-use wasm_listing::sections::SectionWalk;
+use wasm_code::raw::{after_header, read_section};
+use wasm_code::section::RawSection;
+use wasm_codec::reader::cursor::Cursor;
 use wasm_modules::offsets::is_offset_name;
 use wasm_modules::selection::custom_name;
 
-/// Returns the names of the custom sections that keep offsets, in their order.
+/// Returns the names of the custom sections whose offsets are stale: of all that keep offsets, if the numbers of the
+/// module or the contents of a custom section have got shorter.
 ///
 /// Fails if memory runs out.
-pub fn offset_names(alloc: Global, module: &[u8]) -> Result<Vec<String>, AllocError> {
+pub fn stale_names(
+    alloc: Global,
+    module: &[u8],
+    has_moved: bool,
+    has_shorter_contents: bool,
+) -> Result<Vec<String>, AllocError>
+    // They are the names of all sections that keep offsets, or there are none, since no byte of the module has moved.
+    ensures { IfOk result (λ names. NamesOffsets module.now names.items ⊎ ((names.items ≡ []) × (has_moved ≡ false))) }
+{
+    if has_moved || has_shorter_contents {
+        return offset_names(alloc, module);
+    }
+    Ok(Vec::new(alloc))
+}
+
+/// Returns the names of the custom sections that keep offsets, in their order.
+fn offset_names(alloc: Global, module: &[u8]) -> Result<Vec<String>, AllocError>
+    // They are the names of all such sections of a module.
+    ensures { IfOk result (λ names. NamesOffsets module.now names.items) }
+{
+    match after_header(module) {
+        Some(sections) => names_in(alloc, sections),
+        None => Ok(Vec::new(alloc)),
+    }
+}
+
+/// Returns the names of those of the sections that keep offsets.
+fn names_in(alloc: Global, sections: &[u8]) -> Result<Vec<String>, AllocError>
+    ensures { IfOk result (λ names. OfRawSections sections.now (λ all. AreOffsetNames all names.items)) }
+{
     let mut names = Vec::new(alloc);
-    for located in SectionWalk::new(alloc, module) {
-        if let Some(name) = custom_name(located.section) {
-            if is_offset_name(name) {
-                names.push(String::from_str(alloc, name)?)?;
-            }
+    let mut cursor = Cursor::new(sections);
+    while cursor.len() > 0 {
+        // `fork` shows the proof that all remaining items are bytes.
+        let _start = cursor.fork();
+        let Ok(section) = read_section(&mut cursor) else {
+            // Malformed bytes encode no sections.
+            return Ok(names);
+        };
+        if let Some(name) = offset_name(section) {
+            names.push(String::from_str(alloc, name)?)?;
         }
     }
     Ok(names)
+}
+
+/// Returns the name of a custom section that keeps offsets.
+fn offset_name<'a>(section: RawSection<'a>) -> Option<&'a str>
+    ensures named { IfSome result (λ name. IsNameOf (parts_of section.entry) name.now) }
+    ensures keeps { IfSome result (λ name. IsOffsetName name.now) }
+    ensures none { IfNone result (KeepsNoOffsets (parts_of section.entry)) }
+{
+    let name = custom_name(section)?;
+    if is_offset_name(name) {
+        return Some(name);
+    }
+    None
 }

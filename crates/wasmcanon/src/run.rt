@@ -6,12 +6,13 @@ ghost use Rattle.wasm_modules.specs.Counting.{ShowsModule};
 ghost use Rattle.wasm_modules.specs.RefusalNumbers.{CountsParts};
 ghost use Rattle.wasmcanon.specs.Objects.{IsObjectFile, IsNoObjectFile};
 ghost use Rattle.wasmcanon.specs.Run.{Accepts, FormIs, IsModule, IsCanonicalForm, AppendsBeginning, AppendsForm, IsForm, IsHash, IfObjectFile, IfPlaced, IfWriteFailed, NeverWrites, OnceAllIsRead, BeforeAnyWrite, IsReadFailure, Judges, outcome_of, status_of};
+ghost use Rattle.wasmcanon.specs.StaleSections.{NamesStale};
 ghost use Rattle.wasmcanon.specs.declared.run.Failure.TheVariants.{Memory};
 
 use crate::contents::{judge_contents, with_contents};
 use crate::foreign::Foreign;
 use crate::objects::is_object_file;
-use crate::offsets::offset_names;
+use crate::offsets::stale_names;
 use crate::order::{MisplacedSection, check_sections};
 use crate::uses::PatternUses;
 use canon_cli::input::Input;
@@ -112,7 +113,7 @@ pub enum Verdict {
 /// order is allowed. Fails with `ObjectFile` if the output would be an object file, unless `objects` is set: its
 /// relocations would be stale. Fails with `Memory` if memory runs out, and with `Read` or `Write` if a read or a write
 /// fails.
-#[tactic(auto, using(crate::proofs::ResultLaws::failed_to_write, crate::proofs::ResultLaws::not_written, crate::proofs::ObjectLaws::form_is))]
+#[tactic(auto, using(crate::proofs::ResultLaws::failed_to_write, crate::proofs::ResultLaws::not_written, crate::proofs::SectionSearches::form_is, crate::proofs::StaleLaws::form_names))]
 pub fn canonicalise<R: Input, W: Write>(
     alloc: Global,
     reader: &mut R,
@@ -122,6 +123,9 @@ pub fn canonicalise<R: Input, W: Write>(
     options: FormOptions<'_>,
     uses: &mut PatternUses<'_>,
 ) -> Result<Vec<String>, Failure>
+    // The names are those of all sections in the form that keep offsets, or there are none, since the input was canonical.
+    ensures stale { IfOk result (λ names. IfSome (R.remaining reader.old) (λ input.
+        FormIs options.entry input (λ form. NamesStale input form names.items))) }
     // The canonical form of the input with these options was appended, and nothing else.
     ensures ok { OnOk result (IfSome (R.remaining reader.old) (λ input.
         AppendsForm options.entry input (W.contents writer.old) (W.contents writer.new))) }
@@ -197,6 +201,8 @@ fn read_form<R: Input>(
 ) -> Result<Form, Failure>
     ensures ok { IfOk result (λ form. IfSome (R.remaining reader.old) (λ input.
         IsForm options.entry input form.bytes.items)) }
+    ensures stale { IfOk result (λ form. IfSome (R.remaining reader.old) (λ input.
+        NamesStale input form.bytes.items form.stale.items)) }
     ensures accepts { IfSome (R.remaining reader.old) (λ input. Accepts any_order input (outcome_of result)) }
     ensures read_to_end { OnceAllIsRead result (IsAtEnd (R.remaining reader.new)) }
     ensures numbers { IfPlaced result (λ refusal. IfSome (R.remaining reader.old) (λ input.
@@ -208,12 +214,12 @@ fn read_form<R: Input>(
     let chosen = choose_sections(canonical.bytes, options.sections);
     let len = chosen.len();
     let bytes = with_contents(alloc, chosen, options.names)?;
-    let has_moved = canonical.has_moved || bytes.len() != len;
-    let stale = if has_moved {
-        offset_names(alloc, &bytes)?
-    } else {
-        Vec::new(alloc)
-    };
+    let stale = stale_names(
+        alloc,
+        bytes.as_slice(),
+        canonical.has_moved,
+        bytes.len() != len,
+    )?;
     Ok(Form { bytes, stale })
 }
 
@@ -228,6 +234,9 @@ pub fn read_canonical<R: Input>(
 ) -> Result<Canonical, Failure>
     // The result is the canonical form of the input.
     ensures ok { IfOk result (λ form. IfSome (R.remaining reader.old) (λ input. IsCanonicalForm input form.bytes.items)) }
+    // If no byte has moved, the input is canonical.
+    ensures moved { IfOk result (λ form. form.has_moved ≡ false →
+        IfSome (R.remaining reader.old) (λ input. IsCanonicalForm input input)) }
     // A refused input is malformed, and unless any order is allowed, the sections of an accepted one are in order.
     ensures accepts { IfSome (R.remaining reader.old) (λ input. Accepts any_order input (outcome_of result)) }
     // All of the input is read before it is refused.

@@ -1,5 +1,5 @@
 use Rattle.wasm_code.specs.formats.Sections.{parts_of}
-use Rattle.wasmcanon.proofs.ObjectLaws.{not_object}
+use Rattle.wasmcanon.proofs.SectionSearches.{not_object}
 use Rattle.wasmcanon.proofs.objects.is_object_section.Goals as goal
 
 pub returns-in-Some-clause-no : goal.returns-in-Some-clause-no

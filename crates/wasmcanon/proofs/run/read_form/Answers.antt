@@ -1,4 +1,5 @@
 use Rattle.wasmcanon.proofs.ResultLaws.{is_form}
+use Rattle.wasmcanon.proofs.StaleLaws.{names_of}
 use Rattle.wasmcanon.proofs.run.read_form.Goals as goal
 
 pub returns-clause-ok : goal.returns-clause-ok
@@ -6,3 +7,6 @@ returns-clause-ok g c =
     let chosen = c.choose_sections-chosen.ensures in
     let contents = c.in_ok-bytes.ensures in
     is_form (g.R.Read.remaining c.args.reader.now) c.args.options c.in_ok-canonical.canonical.bytes.items c.choose_sections-chosen.result.items c.in_ok-bytes.bytes.items c.in_ok-canonical.ensures.ok chosen.chosen chosen.minimal contents.contents contents.minimal
+
+pub returns-clause-stale : goal.returns-clause-stale
+returns-clause-stale g c = names_of (g.R.Read.remaining c.args.reader.now) c.in_ok-bytes.bytes.items c.as_slice.result.now c.in_ok-stale.stale.items c.in_ok-canonical.canonical.has_moved c.as_slice.ensures.value c.in_ok-canonical.ensures.moved c.in_ok-stale.ensures

@@ -1,7 +1,6 @@
--- The walk over sections that looks for one of an object file.
-use Rattle.std.proofs.Common.{◌≡◌, ◌∙◌, ℕ, ◌<◌, true, false, List, [], ◌∷◌, ◌++◌, length, Option, Some, None, Err, refl, sym, ap, subst, append_assoc, inl, inr}
+-- The walk over sections that looks for some of them by their names.
+use Rattle.std.proofs.Common.{◌≡◌, ◌∙◌, ℕ, ◌<◌, List, [], ◌∷◌, ◌++◌, length, Option, Some, None, Err, refl, sym, ap, subst, append_assoc}
 use Rattle.std.specs.Prelude.{IfSome}
-use Rattle.std.specs.List.{AllByRecursion}
 use Rattle.std.proofs.lemmas.List.{append-nil}
 use Rattle.wasm_codec.specs.Outcomes.{IsMalformed}
 use Rattle.wasm_codec.specs.Places.{Place, Reads}
@@ -24,24 +23,24 @@ not_object section name named one other is = other (subst IsObjectName (one is.n
 
 -- ---- the walk
 
--- the first of the sections were read, and none of them is that of an object file
-pub record Searched (sections : List SectionParts) (left : List ℕ) : Type 0 where
+-- the first of the sections were read, and the property holds of them
+pub record Searched (P : List SectionParts → Type 0) (sections : List SectionParts) (left : List ℕ) : Type 0 where
   pub before : List SectionParts
   pub rest : List SectionParts
   pub parts : sections ≡ before ++ rest
   pub encodes : Joined raw_section.Encodes left rest
-  pub none : HasNoObject before
+  pub so_far : P before
 
-pub searched_none : (bytes : List ℕ) → OfRawSections bytes (λ sections. Searched sections bytes)
-searched_none bytes sections g = record { before = []; rest = sections; parts = refl; encodes = g; none = tt }
+pub searched_none : {P : List SectionParts → Type 0} (bytes : List ℕ) → P [] → OfRawSections bytes (λ sections. Searched P sections bytes)
+searched_none bytes nothing sections g = record { before = []; rest = sections; parts = refl; encodes = g; so_far = nothing }
 
-none_more : (before : List SectionParts) (s : SectionParts) → HasNoObject before → (IsObjectSection s → ⊥) → HasNoObject (before ++ s ∷ [])
+pub none_more : (before : List SectionParts) (s : SectionParts) → HasNoObject before → (IsObjectSection s → ⊥) → HasNoObject (before ++ s ∷ [])
 none_more [] s none other = (other, tt)
 none_more (t ∷ before) s none other = (none.0, none_more before s none.1 other)
 
-module _ (bytes : List ℕ) (here mid : Place) (s : SectionParts) (searched : OfRawSections bytes (λ sections. Searched sections here.left)) (some : 0 < length here.left) (read : raw_section.at here ≡ Some (s, mid)) where
-  pub searched_on : (IsObjectSection s → ⊥) → OfRawSections bytes (λ sections. Searched sections mid.left)
-  searched_on other sections g =
+module _ {P : List SectionParts → Type 0} (bytes : List ℕ) (here mid : Place) (s : SectionParts) (searched : OfRawSections bytes (λ sections. Searched P sections here.left)) (some : 0 < length here.left) (read : raw_section.at here ≡ Some (s, mid)) where
+  pub searched_on : {Q : List SectionParts → Type 0} → ((before : List SectionParts) → P before → Q (before ++ s ∷ [])) → OfRawSections bytes (λ sections. Searched Q sections mid.left)
+  searched_on more sections g =
       let w = searched sections g in
       let next = next_section here mid s w.rest some w.encodes read in
       record {
@@ -49,7 +48,7 @@ module _ (bytes : List ℕ) (here mid : Place) (s : SectionParts) (searched : Of
         rest = next.after;
         parts = w.parts ∙ ap (λ (l : List SectionParts). w.before ++ l) next.is ∙ sym (append_assoc w.before (s ∷ []) next.after);
         encodes = next.encodes;
-        none = none_more w.before s w.none other;
+        so_far = more w.before w.so_far;
       }
 
   pub object_found : IsObjectSection s → OfRawSections bytes HasObject
@@ -58,16 +57,16 @@ module _ (bytes : List ℕ) (here mid : Place) (s : SectionParts) (searched : Of
       let next = next_section here mid s w.rest some w.encodes read in
       record { before = w.before; section = s; after = next.after; parts = w.parts ∙ ap (λ (l : List SectionParts). w.before ++ l) next.is; tells = is }
 
-pub searched_all : (bytes : List ℕ) (here : Place) → OfRawSections bytes (λ sections. Searched sections here.left) → here.left ≡ [] → OfRawSections bytes HasNoObject
-searched_all bytes here searched none sections g =
+pub searched_all : {P : List SectionParts → Type 0} (bytes : List ℕ) (here : Place) → OfRawSections bytes (λ sections. Searched P sections here.left) → here.left ≡ [] → OfRawSections bytes P
+searched_all {P} bytes here searched none sections g =
     let w = searched sections g in
     let rest : w.rest ≡ [] = none_left w.rest (subst (λ (l : List ℕ). Joined raw_section.Encodes l w.rest) none w.encodes) in
-    subst HasNoObject (sym (w.parts ∙ ap (λ (l : List SectionParts). w.before ++ l) rest ∙ append-nil w.before)) w.none
+    subst P (sym (w.parts ∙ ap (λ (l : List SectionParts). w.before ++ l) rest ∙ append-nil w.before)) w.so_far
 
 -- bytes that encode no sections have every property
-pub searched_nowhere : (bytes : List ℕ) (here new : Place) (P : List SectionParts → Type 0) (fault : Fault) → OfRawSections bytes (λ sections. Searched sections here.left) → 0 < length here.left → Reads raw_section.at here new (Err fault) → IsMalformed fault → OfRawSections bytes P
-searched_nowhere bytes here new P faults.Memory searched some none malformed sections g = absurd malformed
-searched_nowhere bytes here new P (faults.Malformed m) searched some none malformed sections g = let w = searched sections g in absurd (no_section here w.rest some w.encodes none)
+pub searched_nowhere : {P : List SectionParts → Type 0} (bytes : List ℕ) (here new : Place) (Q : List SectionParts → Type 0) (fault : Fault) → OfRawSections bytes (λ sections. Searched P sections here.left) → 0 < length here.left → Reads raw_section.at here new (Err fault) → IsMalformed fault → OfRawSections bytes Q
+searched_nowhere bytes here new Q faults.Memory searched some none malformed sections g = absurd malformed
+searched_nowhere bytes here new Q (faults.Malformed m) searched some none malformed sections g = let w = searched sections g in absurd (no_section here w.rest some w.encodes none)
 
 -- ---- forms
 
