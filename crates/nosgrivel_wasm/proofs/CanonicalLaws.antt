@@ -1,55 +1,67 @@
 -- What a host learns follows from what the library says of the module.
-use Rattle.std.proofs.Common.{◌≡◌, ◌≤◌, ℕ, List, length, take, Option, Some, None, Result, Ok, Err, IfOk, IfErr, IfSome, inl, inr, sym, ap, ◌∙◌, subst, arith}
+use Rattle.std.proofs.Common.{◌≤◌, ℕ, List, length, take, Option, Some, None, Result, Ok, Err, IfOk, IfErr, IfSome, inl, inr, sym, ap, ◌∙◌, subst, arith}
 use Rattle.wasm_codec.specs.declared.reader.refusal.Refusal.{Refusal}
 use Rattle.wasm_codec.specs.Decoding.{Checks, NormalisesTo}
-use Rattle.wasm_codec.specs.Outcomes.{as_decoded, IsLongestPrefix, IsNormalForm, LiesIn}
+use Rattle.wasm_codec.specs.Outcomes.{as_decoded, IfMalformed, IsLongestPrefix, IsNormalForm, LiesIn}
 use Rattle.wasm_codec.specs.formats.Combinators.{minimal_only}
 use Rattle.wasm_code.specs.Judging.{RefusalLiesIn, len_of, verdict_of}
-use Rattle.wasm_code.specs.Modules.{IsModulePrefixOf}
+use Rattle.wasm_code.specs.Modules.{CountsSections, IsModulePrefixOf}
 use Rattle.wasm_code.specs.declared.judging.Judgement.{Judgement}
 use Rattle.wasm_sections.specs.formats.ModuleSections.{ShortestWholeModule, module_section, whole_module}
-use Rattle.flat_refusals.specs.FlatRefusals.{flat_refusal}
+use Rattle.wasm_modules.specs.RefusalNumbers.{CountsParts}
+use Rattle.flat_refusals.specs.FlatRefusals.{flat_accepted}
 use Rattle.flat_refusals.specs.declared.refusal.FlatRefusal.{FlatRefusal}
 use Rattle.nosgrivel_wasm.specs.Canonicalising.{Canonicalises, IsTold, IsJudged}
 
 module _ (old new : List ℕ) where
   judged_so : (len : ℕ) (longer : Option Refusal) (count : ℕ) (told : FlatRefusal) (status : ℕ) → len ≤ length new → IsNormalForm whole_module.Encodes whole_module.bytes old (take len new)
-      → Checks whole_module ShortestWholeModule (IsModulePrefixOf (minimal_only module_section)) old (verdict_of longer) → IfSome longer (RefusalLiesIn (length old)) → IsJudged len longer count told status → Canonicalises old new count told status
-  judged_so len None count told status fits form checks within (is, counted, flat) = record {
+      → Checks whole_module ShortestWholeModule (IsModulePrefixOf (minimal_only module_section)) old (verdict_of longer) → IfSome longer (RefusalLiesIn (length old)) → IfSome longer (CountsSections (minimal_only module_section) old)
+      → IsJudged len longer count told status → Canonicalises old new count told status
+  judged_so len None count told status fits form checks within counts (is, counted, flat) = record {
     within = λ s. subst (λ (k : ℕ). k ≤ length new) (sym counted) fits;
     written = λ s. subst (λ (k : ℕ). IsNormalForm whole_module.Encodes whole_module.bytes old (take k new)) (sym counted) form;
     canonical = λ s. checks.given;
+    accepted = λ s. flat ∙ ap flat_accepted (sym counted);
     longer = λ s. absurd (omega (arith, is, s));
     first = λ s. absurd (omega (arith, is, s));
+    part = λ s. absurd (omega (arith, is, s));
     refused = λ s. absurd (omega (arith, is, s));
+    at = λ s. absurd (omega (arith, is, s));
     encodes_none = λ s some. omega (arith, is, s);
-    reason = λ s. absurd (s is);
+    place = λ s. absurd (omega (arith, is, s));
     statuses = inl is;
   }
-  judged_so len (Some refusal) count told status fits form checks within (is, counted, flat) = record {
+  judged_so len (Some refusal) count told status fits form checks within counts (is, counted, flat) = record {
     within = λ s. subst (λ (k : ℕ). k ≤ length new) (sym counted) fits;
     written = λ s. subst (λ (k : ℕ). IsNormalForm whole_module.Encodes whole_module.bytes old (take k new)) (sym counted) form;
     canonical = λ s. absurd (omega (arith, is, s));
+    accepted = λ s. absurd (omega (arith, is, s));
     longer = λ s some. checks.unencoded some.0 some.1;
     first = λ s. subst (λ (k : ℕ). IsLongestPrefix (IsModulePrefixOf (minimal_only module_section)) old k) (sym (ap (λ (t : FlatRefusal). t.at) flat)) checks.prefix;
+    part = λ s. record { refusal = refusal; numbers = flat; within = within; counts = counts };
     refused = λ s. absurd (omega (arith, is, s));
+    at = λ s. absurd (omega (arith, is, s));
     encodes_none = λ s some. omega (arith, is, s);
-    reason = λ s. record { refusal = refusal; numbers = flat; within = within };
+    place = λ s. absurd (omega (arith, is, s));
     statuses = inr (inr is);
   }
 
   pub canonicalises : (result : Result Judgement Refusal) (count : ℕ) (told : FlatRefusal) (status : ℕ) → IfOk result (λ judged. judged.len ≤ length new) → NormalisesTo whole_module (IsModulePrefixOf module_section) old (λ len. take len new) (len_of (as_decoded result))
-      → IfOk result (λ judged. Checks whole_module ShortestWholeModule (IsModulePrefixOf (minimal_only module_section)) old (verdict_of judged.longer)) → IfErr (as_decoded result) (LiesIn (length old)) → IfOk result (λ judged. IfSome judged.longer (RefusalLiesIn (length old))) → IsTold result count told status
+      → IfOk result (λ judged. Checks whole_module ShortestWholeModule (IsModulePrefixOf (minimal_only module_section)) old (verdict_of judged.longer)) → IfErr (as_decoded result) (LiesIn (length old)) → IfOk result (λ judged. IfSome judged.longer (RefusalLiesIn (length old)))
+      → IfMalformed (as_decoded result) (CountsParts module_section old) → IfOk result (λ judged. IfSome judged.longer (CountsSections (minimal_only module_section) old)) → IsTold result count told status
       → Canonicalises old new count told status
-  canonicalises (Ok judged) count told status fits normalises checks place within is = judged_so judged.len judged.longer count told status fits normalises.given checks within is
-  canonicalises (Err refusal) count told status fits normalises checks place within (is, counted, flat) = record {
+  canonicalises (Ok judged) count told status fits normalises checks lies within counts numbers is = judged_so judged.len judged.longer count told status fits normalises.given checks within numbers is
+  canonicalises (Err refusal) count told status fits normalises checks lies within counts numbers (is, counted, flat) = record {
     within = λ s. absurd (s is);
     written = λ s. absurd (s is);
     canonical = λ s. absurd (omega (arith, is, s));
+    accepted = λ s. absurd (omega (arith, is, s));
     longer = λ s. absurd (omega (arith, is, s));
     first = λ s. absurd (omega (arith, is, s));
+    part = λ s. absurd (omega (arith, is, s));
     refused = λ s. subst (λ (k : ℕ). IsLongestPrefix (IsModulePrefixOf module_section) old k) (sym counted) normalises.prefix;
+    at = λ s. ap (λ (t : FlatRefusal). t.at) flat ∙ sym counted;
     encodes_none = λ s some. normalises.unencoded some.0 some.1;
-    reason = λ s. record { refusal = refusal; numbers = flat; within = place };
+    place = λ s. record { refusal = refusal; numbers = flat; within = lies; counts = counts };
     statuses = inr (inl is);
   }

@@ -1,12 +1,13 @@
 -- What a host learns of a module that was rewritten in place.
 use Rattle.std.specs.Prelude.{◌≡◌, ◌≢◌, ◌≤◌, ◌⊎◌, ℕ, List, length, take, Option, Some, None, Result, Ok, Err}
 use Rattle.wasm_codec.specs.declared.reader.refusal.Refusal.{Refusal}
-use Rattle.wasm_codec.specs.Outcomes.{EncodesSome, IsLongestPrefix, IsNormalForm}
+use Rattle.wasm_codec.specs.Outcomes.{EncodesSome, IsLongestPrefix, IsNormalForm, place_alone}
 use Rattle.wasm_codec.specs.formats.Combinators.{minimal_only}
 use Rattle.wasm_code.specs.Judging.{RefusalLiesIn}
-use Rattle.wasm_code.specs.Modules.{IsModulePrefixOf}
+use Rattle.wasm_code.specs.Modules.{CountsSections, IsModulePrefixOf}
 use Rattle.wasm_code.specs.declared.judging.Judgement.{Judgement}
 use Rattle.wasm_sections.specs.formats.ModuleSections.{ShortestWholeModule, module_section, whole_module}
+use Rattle.wasm_modules.specs.RefusalNumbers.{CountsParts}
 use Rattle.flat_refusals.specs.FlatRefusals.{flat_accepted, flat_refusal}
 use Rattle.flat_refusals.specs.declared.refusal.FlatRefusal.{FlatRefusal}
 
@@ -22,27 +23,31 @@ was_malformed = 1
 abbrev pub was_longer : ℕ
 was_longer = 2
 
--- The numbers are those of a refusal whose offset lies in a module of this length.
-pub record IsFlat (len : ℕ) (told : FlatRefusal) : Type 0 where
+-- The numbers are those of a refusal whose offset lies in a module of this length, and whose place counts what `Counts`
+-- says.
+pub record IsFlat (Counts : Refusal → Type 0) (len : ℕ) (told : FlatRefusal) : Type 0 where
   pub refusal : Refusal
   pub numbers : told ≡ flat_refusal refusal
   pub within : RefusalLiesIn len refusal
+  pub counts : Counts (place_alone refusal)
 
 -- The module `old` was replaced by its canonical form in place, which made it `new`.
 pub record Canonicalises (old new : List ℕ) (count : ℕ) (told : FlatRefusal) (status : ℕ) : Type 0 where
   -- The bytes begin with the canonical form of a well-formed module, and the count is its length.
   pub within : status ≢ was_malformed → count ≤ length new
   pub written : status ≢ was_malformed → IsNormalForm whole_module.Encodes whole_module.bytes old (take count new)
-  -- The module was its own canonical form.
+  -- The module was its own canonical form, and the numbers are those of no refusal.
   pub canonical : status ≡ was_canonical → EncodesSome ShortestWholeModule old
+  pub accepted : status ≡ was_canonical → told ≡ flat_accepted count
   -- It wasn't, and the refusal is at the end of the longest prefix that is minimally encoded.
   pub longer : status ≡ was_longer → EncodesSome ShortestWholeModule old → ⊥
   pub first : status ≡ was_longer → IsLongestPrefix (IsModulePrefixOf (minimal_only module_section)) old told.at
+  pub part : status ≡ was_longer → IsFlat (CountsSections (minimal_only module_section) old) (length old) told
   -- Only a malformed module is refused, and the count is the length of the longest prefix that decodes.
   pub refused : status ≡ was_malformed → IsLongestPrefix (IsModulePrefixOf module_section) old count
+  pub at : status ≡ was_malformed → told.at ≡ count
   pub encodes_none : status ≡ was_malformed → EncodesSome whole_module.Encodes old → ⊥
-  -- Unless it was canonical, the numbers are those of a refusal in the module.
-  pub reason : status ≢ was_canonical → IsFlat (length old) told
+  pub place : status ≡ was_malformed → IsFlat (CountsParts module_section old) (length old) told
   -- No other status is returned.
   pub statuses : (status ≡ was_canonical) ⊎ (status ≡ was_malformed) ⊎ (status ≡ was_longer)
 

@@ -8,7 +8,8 @@ use Rattle.wasm_codec.specs.Encoding.{IsShortestOrLonger}
 use Rattle.wasm_sections.specs.formats.ModuleSections.{whole_module}
 use Rattle.wasm_sections.proofs.ModuleSectionLaws.{whole_module_is_lawful}
 use Rattle.wasm_modules.specs.Offsets.{IsNameOf, IsOffsetName}
-use Rattle.wasmcanon.specs.Run.{FormIs, IsCanonicalForm, IsForm}
+use Rattle.wasm_modules.specs.Selections.{IsChosen}
+use Rattle.wasmcanon.specs.Run.{FormIs, HasContents, IsCanonicalForm, IsForm}
 use Rattle.wasmcanon.specs.declared.run.FormOptions.{FormOptions}
 use Rattle.wasmcanon.specs.StaleSections.{AreOffsetNames, none, named, other, KeepsNoOffsets, NamesOffsets, NamesStale}
 
@@ -33,15 +34,15 @@ if_none (Some a) P holds = tt
 -- ---- what a run names
 
 -- a canonical form as long as the input is the input
-pub unmoved : (input form : List ℕ) → IsCanonicalForm input form → length form ≡ length input → IsCanonicalForm input input
+pub unmoved : (input form : List ℕ) → IsCanonicalForm input form → length form ≡ length input → form ≡ input
 unmoved input form canonical same = by (whole_module_is_lawful.shortest.least input canonical.value canonical.encoded) where
-  by : IsShortestOrLonger input (whole_module.bytes canonical.value) → IsCanonicalForm input input
-  by (inl is) = record { value = canonical.value; encoded = canonical.encoded; is_shortest = is }
+  by : IsShortestOrLonger input (whole_module.bytes canonical.value) → form ≡ input
+  by (inl is) = canonical.is_shortest ∙ sym is
   by (inr shorter) = absurd (lt_irrefl (length input) (subst (λ (n : ℕ). n < length input) (sym (ap length canonical.is_shortest) ∙ same) shorter))
 
-pub known_unmoved : (known : Option (List ℕ)) (bytes form : List ℕ) → IfSome known (λ input. bytes ≡ input) → IsCanonicalForm bytes form → length form ≡ length bytes → IfSome known (λ input. IsCanonicalForm input input)
+pub known_unmoved : (known : Option (List ℕ)) (bytes form : List ℕ) → IfSome known (λ input. bytes ≡ input) → IsCanonicalForm bytes form → length form ≡ length bytes → IfSome known (λ input. form ≡ input)
 known_unmoved None bytes form read canonical same = tt
-known_unmoved (Some input) bytes form read canonical same = subst (λ (b : List ℕ). IsCanonicalForm b b) read (unmoved bytes form canonical same)
+known_unmoved (Some input) bytes form read canonical same = unmoved bytes form canonical same ∙ read
 
 -- the numbers are equal, so no byte has moved
 pub same_number : (a b : ℕ) → not (nat_eq a b) ≡ false → a ≡ b
@@ -50,11 +51,24 @@ same_number a b stays = by (nat_eq a b) refl stays where
   by true is kept = eqb-true a b is
   by false is moved = absurd (true≢false moved)
 
-pub names_of : (known : Option (List ℕ)) (form bytes : List ℕ) (names : List (String Global)) (moved : Bool) → bytes ≡ form → (moved ≡ false → IfSome known (λ input. IsCanonicalForm input input)) → NamesOffsets bytes names ⊎ ((names ≡ []) × (moved ≡ false)) → IfSome known (λ input. NamesStale input form names)
-names_of None form bytes names moved same stays told = tt
-names_of (Some input) form bytes names moved same stays (inl all) = inl (subst (λ (b : List ℕ). NamesOffsets b names) same all)
-names_of (Some input) form bytes names moved same stays (inr empty) = inr (empty.0, stays empty.1)
+pub names_of : (known : Option (List ℕ)) (options : FormOptions) (encoding part form bytes : List ℕ) (names : List (String Global)) (moved shorter : Bool) → bytes ≡ form → IfSome known (λ input. IsCanonicalForm input encoding)
+    → (moved ≡ false → IfSome known (λ input. encoding ≡ input)) → IsChosen options.sections encoding part → HasContents options.names part form → (shorter ≡ false → length form ≡ length part)
+    → NamesOffsets bytes names ⊎ ((names ≡ []) × ((moved ≡ false) × (shorter ≡ false))) → IfSome known (λ input. NamesStale options input form names)
+names_of None options encoding part form bytes names moved shorter same canonical stays chosen contents as_long told = tt
+names_of (Some input) options encoding part form bytes names moved shorter same canonical stays chosen contents as_long (inl all) = inl (subst (λ (b : List ℕ). NamesOffsets b names) same all)
+names_of (Some input) options encoding part form bytes names moved shorter same canonical stays chosen contents as_long (inr empty) =
+    let is = stays empty.1.0 in
+    inr (
+      empty.0,
+      record {
+        canonical = subst (IsCanonicalForm input) is canonical;
+        part = part;
+        chosen = subst (λ (b : List ℕ). IsChosen options.sections b part) is chosen;
+        contents = contents;
+        as_long = as_long empty.1.1;
+      },
+    )
 
-pub form_names : (known : Option (List ℕ)) (options : FormOptions) (form : List ℕ) (names : List (String Global)) → IfSome known (λ input. IsForm options input form) → IfSome known (λ input. NamesStale input form names) → IfSome known (λ input. FormIs options input (λ bytes. NamesStale input bytes names))
+pub form_names : (known : Option (List ℕ)) (options : FormOptions) (form : List ℕ) (names : List (String Global)) → IfSome known (λ input. IsForm options input form) → IfSome known (λ input. NamesStale options input form names) → IfSome known (λ input. FormIs options input (λ bytes. NamesStale options input bytes names))
 form_names None options form names is stale = tt
 form_names (Some input) options form names is stale = record { bytes = form; form = is; holds = stale }

@@ -1,10 +1,12 @@
 -- Custom sections that keep offsets, which are stale once bytes have moved.
-use Rattle.std.specs.Prelude.{◌≡◌, ◌⊎◌, ℕ, List, [], ◌∷◌, String, string_bytes}
+use Rattle.std.specs.Prelude.{◌≡◌, ◌⊎◌, ℕ, List, [], ◌∷◌, String, length, string_bytes}
 use Rattle.std.specs.Global.{Global}
 use Rattle.wasm_code.specs.formats.Modules.{raw_module}
 use Rattle.wasm_code.specs.formats.Sections.{SectionParts}
 use Rattle.wasm_modules.specs.Offsets.{IsNameOf, IsOffsetName}
-use Rattle.wasmcanon.specs.Run.{IsCanonicalForm}
+use Rattle.wasm_modules.specs.Selections.{IsChosen}
+use Rattle.wasmcanon.specs.Run.{HasContents, IsCanonicalForm}
+use Rattle.wasmcanon.specs.declared.run.FormOptions.{FormOptions}
 
 -- The section has no name, or none of sections that keep offsets.
 abbrev pub KeepsNoOffsets : SectionParts → Type 0
@@ -20,6 +22,14 @@ pub data AreOffsetNames : List SectionParts → List (String Global) → Type 0 
 abbrev pub NamesOffsets : List ℕ → List (String Global) → Type 0
 NamesOffsets bytes names = (sections : List SectionParts) → raw_module.Encodes bytes sections → AreOffsetNames sections names
 
--- They name all sections of the form that keep offsets, or none, since the input was canonical.
-abbrev pub NamesStale : List ℕ → List ℕ → List (String Global) → Type 0
-NamesStale input form names = NamesOffsets form names ⊎ ((names ≡ []) × IsCanonicalForm input input)
+-- The input is canonical, and minimising the contents of its chosen sections shortens nothing.
+pub record HasStayed (options : FormOptions) (input form : List ℕ) : Type 0 where
+  pub canonical : IsCanonicalForm input input
+  pub part : List ℕ
+  pub chosen : IsChosen options.sections input part
+  pub contents : HasContents options.names part form
+  pub as_long : length form ≡ length part
+
+-- They name all sections of the form that keep offsets, or none, since no byte of a chosen section has moved.
+abbrev pub NamesStale : FormOptions → List ℕ → List ℕ → List (String Global) → Type 0
+NamesStale options input form names = NamesOffsets form names ⊎ ((names ≡ []) × HasStayed options input form)

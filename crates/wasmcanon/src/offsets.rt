@@ -23,7 +23,8 @@ pub fn stale_names(
     has_shorter_contents: bool,
 ) -> Result<Vec<String>, AllocError>
     // They are the names of all sections that keep offsets, or there are none, since no byte of the module has moved.
-    ensures { IfOk result (λ names. NamesOffsets module.now names.items ⊎ ((names.items ≡ []) × (has_moved ≡ false))) }
+    ensures { IfOk result (λ names. NamesOffsets module.now names.items
+        ⊎ ((names.items ≡ []) × ((has_moved ≡ false) × (has_shorter_contents ≡ false)))) }
 {
     if has_moved || has_shorter_contents {
         return offset_names(alloc, module);

@@ -123,9 +123,9 @@ pub fn canonicalise<R: Input, W: Write>(
     options: FormOptions<'_>,
     uses: &mut PatternUses<'_>,
 ) -> Result<Vec<String>, Failure>
-    // The names are those of all sections in the form that keep offsets, or there are none, since the input was canonical.
+    // The names are those of all sections in the form that keep offsets, or there are none, since no byte has moved.
     ensures stale { IfOk result (λ names. IfSome (R.remaining reader.old) (λ input.
-        FormIs options.entry input (λ form. NamesStale input form names.items))) }
+        FormIs options.entry input (λ form. NamesStale options.entry input form names.items))) }
     // The canonical form of the input with these options was appended, and nothing else.
     ensures ok { OnOk result (IfSome (R.remaining reader.old) (λ input.
         AppendsForm options.entry input (W.contents writer.old) (W.contents writer.new))) }
@@ -202,7 +202,7 @@ fn read_form<R: Input>(
     ensures ok { IfOk result (λ form. IfSome (R.remaining reader.old) (λ input.
         IsForm options.entry input form.bytes.items)) }
     ensures stale { IfOk result (λ form. IfSome (R.remaining reader.old) (λ input.
-        NamesStale input form.bytes.items form.stale.items)) }
+        NamesStale options.entry input form.bytes.items form.stale.items)) }
     ensures accepts { IfSome (R.remaining reader.old) (λ input. Accepts any_order input (outcome_of result)) }
     ensures read_to_end { OnceAllIsRead result (IsAtEnd (R.remaining reader.new)) }
     ensures numbers { IfPlaced result (λ refusal. IfSome (R.remaining reader.old) (λ input.
@@ -234,9 +234,9 @@ pub fn read_canonical<R: Input>(
 ) -> Result<Canonical, Failure>
     // The result is the canonical form of the input.
     ensures ok { IfOk result (λ form. IfSome (R.remaining reader.old) (λ input. IsCanonicalForm input form.bytes.items)) }
-    // If no byte has moved, the input is canonical.
+    // If no byte has moved, it is the input.
     ensures moved { IfOk result (λ form. form.has_moved ≡ false →
-        IfSome (R.remaining reader.old) (λ input. IsCanonicalForm input input)) }
+        IfSome (R.remaining reader.old) (λ input. form.bytes.items ≡ input)) }
     // A refused input is malformed, and unless any order is allowed, the sections of an accepted one are in order.
     ensures accepts { IfSome (R.remaining reader.old) (λ input. Accepts any_order input (outcome_of result)) }
     // All of the input is read before it is refused.
