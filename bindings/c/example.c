@@ -9,8 +9,7 @@
 #include <stdlib.h>
 #include <string.h>
 
-/* Reads all of a file, and sets *len to its length. Returns NULL if memory ran out. The block is never empty, even if
- * the file is, because no pointer may be null. */
+/* Reads all of a file, and sets *len to its length. Returns NULL if memory ran out. */
 static uint8_t *read_all(FILE *file, size_t *len) {
     size_t room = 1 << 16;
     uint8_t *bytes = (uint8_t *)malloc(room);

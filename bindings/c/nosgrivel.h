@@ -2,7 +2,7 @@
  *
  * Every promise in this file is proved for all inputs, unless it says otherwise, if the caller keeps these rules:
  *
- * - No pointer is null, even if its length is 0.
+ * - No pointer is null, unless its length is 0. That null pointers to no bytes work is tested, not proved.
  * - `input` points to `input_len` bytes, `output` to `output_len` bytes, `bytes` to `len` bytes, `buffer` to `size`
  *   bytes, and `count` to one size_t. `dropped` and `kept` point to as many bytes as the lengths after them say. None
  *   of them overlaps another. During the call nothing else writes to any of them, and nothing else reads what the call
@@ -163,7 +163,8 @@ enum nosgrivel_reason {
     NOSGRIVEL_STRAY_DELIMITER = 13,
     /* No section has the id `first`. */
     NOSGRIVEL_UNKNOWN_SECTION = 14,
-    /* The input doesn't begin with the header 00 61 73 6D 01 00 00 00. */
+    /* The input, of `second` bytes, doesn't begin with the header 00 61 73 6D 01 00 00 00. `first` holds its first four
+     * bytes, the first in the lowest bits. Each that is missing counts as 0. */
     NOSGRIVEL_NOT_A_MODULE = 15,
     /* The version in the header is `first`, not 1. It is 0x1000D in a component. */
     NOSGRIVEL_UNSUPPORTED_VERSION = 16,
@@ -244,7 +245,7 @@ uint32_t nosgrivel_explain_module(
 
 /* Write a refusal as text, such as "code section, function 12, offset 0x1a4f: unknown opcode 0xFF", to the buffer. Like
  * snprintf, cut the text to size - 1 bytes, end it by NUL, and return the length of the whole text, which is at most
- * 256. If size is 0, write nothing; the buffer must not be null even so. The call allocates nothing.
+ * 256. If size is 0, write nothing; the buffer may then be null. The call allocates nothing.
  *
  * The text is empty for NOSGRIVEL_NORMAL, and "no memory" for NOSGRIVEL_NO_MEMORY. *refusal is one that
  * nosgrivel_explain_module filled. */

@@ -25,11 +25,14 @@ struct row {
 
 static const struct row rows[] = {
     {(const uint8_t *)"", 0, false, REFUSED(-1, -1, 0, 0, -1, -1, -1, NOT_A_MODULE, NONE, 0, 0),
-     "offset 0x0: not a WebAssembly module: expected the header 00 61 73 6D 01 00 00 00"},
+     "offset 0x0: not a WebAssembly module: expected the header 00 61 73 6D 01 00 00 00, found no bytes"},
+    {BYTES(0x1F, 0x8B, 0x08, 0x00, 0x00), false,
+     REFUSED(-1, -1, 0, 0, -1, -1, -1, NOT_A_MODULE, NONE, 0x00088B1F, 5),
+     "offset 0x0: not a WebAssembly module: expected the header 00 61 73 6D 01 00 00 00, found a gzip file"},
     /* a component */
     {BYTES(0x00, 0x61, 0x73, 0x6D, 0x0D, 0x00, 0x01, 0x00), false,
      REFUSED(-1, -1, 0, 0, -1, -1, -1, UNSUPPORTED_VERSION, NONE, 0x1000D, 0),
-     "offset 0x0: unsupported version 0x1000d: expected 1"},
+     "offset 0x0: unsupported version 0x1000d: expected 1, found a component"},
     {MODULE(0x0E, 0x00), false, REFUSED(0, 14, 8, 8, -1, -1, -1, UNKNOWN_SECTION, NONE, 14, 0),
      "section 0, offset 0x8: unknown section id 14"},
     /* the size 9 at 9, and one byte after it */

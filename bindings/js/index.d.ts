@@ -31,7 +31,10 @@ export type Reason =
     | 'stray-delimiter'
     /** No section has the id `first`. */
     | 'unknown-section'
-    /** The module doesn't begin with the header 00 61 73 6D 01 00 00 00. */
+    /**
+     * The module, of `second` bytes, doesn't begin with the header 00 61 73 6D 01 00 00 00. `first` holds its first four
+     * bytes, the first in the lowest bits. Each that is missing counts as 0.
+     */
     | 'not-a-module'
     /** The version in the header is `first`, not 1. It is 0x1000D in a component. */
     | 'unsupported-version'

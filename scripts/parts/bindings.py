@@ -117,13 +117,14 @@ def fault_beside_plain(example, plain):
 
 
 def try_sanitized(report, folder, compiler="cc", archive=ARCHIVE, emulator=(), **how):
-    """Runs the tests in C under the sanitizers: failing allocations, refusals and their messages."""
+    """Runs the tests in C under the sanitizers: failing allocations, refusals and their messages, null pointers."""
     (folder / "none.c").write_text("int main(void) { return 0; }\n", "utf-8")
     if run_command(compiler, *SANITIZERS, "-o", folder / "none", folder / "none.c").returncode:
         report.skipped("failing allocations and refusals", f"{compiler} has no sanitizers")
         return
     wrap = "-Wl,--wrap=malloc,--wrap=realloc,--wrap=free"
-    for name, program, words in (("failing allocations", "refused_memory", [wrap]), ("refusals", "refusals", [])):
+    for name, program, words in (("failing allocations", "refused_memory", [wrap]), ("refusals", "refusals", []),
+                                 ("null pointers", "no_bytes", [])):
         source = ROOT / f"bindings/c/{program}.c"
         if expect(report, f"the program of {name} is built",
                   compiler, *FLAGS, *SANITIZERS, *words, "-o", folder / program, source, archive):

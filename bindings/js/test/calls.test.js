@@ -14,7 +14,9 @@ import { BROKEN, CANONICAL, HAS_MEMORY64, INDEX, moduleOf, PADDED, SKIPPED, WASM
  */
 const REFUSED = [
     [new Uint8Array(), [null, null, 0, 0, null, null, null, 'not-a-module', null, 0, 0],
-        'offset 0x0: not a WebAssembly module: expected the header 00 61 73 6D 01 00 00 00'],
+        'offset 0x0: not a WebAssembly module: expected the header 00 61 73 6D 01 00 00 00, found no bytes'],
+    [new TextEncoder().encode('(module)'), [null, null, 0, 0, null, null, null, 'not-a-module', null, 0x646F6D28, 8],
+        'offset 0x0: not a WebAssembly module: expected the header 00 61 73 6D 01 00 00 00, found the text format'],
     [moduleOf(0x0E, 0x00), [0, 14, 8, 8, null, null, null, 'unknown-section', null, 14, 0],
         'section 0, offset 0x8: unknown section id 14'],
     // The size 9 at 9, and one byte after it.

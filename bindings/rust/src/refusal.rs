@@ -205,7 +205,12 @@ pub enum Reason {
         id: u8,
     },
     /// The bytes don't begin with the header of a module.
-    NotAModule,
+    NotAModule {
+        /// The first four bytes, little-endian. Each that is missing counts as 0.
+        first: u32,
+        /// Number of bytes of the input.
+        len: usize,
+    },
     /// The bytes have another version than that of a module.
     UnsupportedVersion {
         /// The four bytes after the magic number, little-endian.
@@ -265,7 +270,10 @@ impl Reason {
             12 => Reason::MissingEnd,
             13 => Reason::StrayDelimiter,
             14 => Reason::UnknownSection { id: first as u8 },
-            15 => Reason::NotAModule,
+            15 => Reason::NotAModule {
+                first: first as u32,
+                len: second as usize,
+            },
             16 => Reason::UnsupportedVersion {
                 version: first as u32,
             },
@@ -298,7 +306,7 @@ impl Reason {
             Reason::MissingEnd => (12, None, 0, 0),
             Reason::StrayDelimiter => (13, None, 0, 0),
             Reason::UnknownSection { id } => (14, None, id.into(), 0),
-            Reason::NotAModule => (15, None, 0, 0),
+            Reason::NotAModule { first, len } => (15, None, first.into(), len as u64),
             Reason::UnsupportedVersion { version } => (16, None, version.into(), 0),
             Reason::NotMinimal { bytes, minimal } => (17, None, bytes as u64, minimal as u64),
             Reason::LongForm => (18, None, 0, 0),

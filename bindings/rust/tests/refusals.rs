@@ -169,7 +169,10 @@ fn sections() {
 fn headers() {
     let told = refusal(b"", false);
     assert_eq!((told.at, told.section), (0, None));
-    assert_eq!(told.reason, Reason::NotAModule);
+    assert_eq!(told.reason, Reason::NotAModule { first: 0, len: 0 });
+    let text = refusal(b"(module)", false);
+    let first = u32::from_le_bytes(*b"(mod");
+    assert_eq!(text.reason, Reason::NotAModule { first, len: 8 });
     let component = refusal(b"\0asm\x0d\0\x01\0", false);
     let version = 0x1000d;
     assert_eq!(component.reason, Reason::UnsupportedVersion { version });

@@ -143,7 +143,7 @@ impl FlatReason {
             Reason::MissingEnd => (MISSING_END, 0, 0),
             Reason::StrayDelimiter => (STRAY_DELIMITER, 0, 0),
             Reason::UnknownSection { id } => (UNKNOWN_SECTION, u64::from(id), 0),
-            Reason::NotAModule => (NOT_A_MODULE, 0, 0),
+            Reason::NotAModule { first, len } => (NOT_A_MODULE, u64::from(first), len as u64),
             Reason::UnsupportedVersion { version } => (UNSUPPORTED_VERSION, u64::from(version), 0),
             Reason::NotMinimal { bytes, minimal } => (NOT_MINIMAL, bytes as u64, minimal as u64),
             Reason::LongForm => (LONG_FORM, 0, 0),
@@ -190,7 +190,6 @@ impl FlatReason {
             }),
             MISSING_END => Some(Reason::MissingEnd),
             STRAY_DELIMITER => Some(Reason::StrayDelimiter),
-            NOT_A_MODULE => Some(Reason::NotAModule),
             LONG_FORM => Some(Reason::LongForm),
             UNEXPLAINED => Some(Reason::Unexplained),
             _ => self.reason_of_bytes(),
@@ -221,6 +220,10 @@ impl FlatReason {
             SIZE_TOO_LARGE => Some(Reason::SizeTooLarge {
                 size: u32::try_from(self.first).ok()?,
                 left: usize::try_from(self.second).ok()?,
+            }),
+            NOT_A_MODULE => Some(Reason::NotAModule {
+                first: u32::try_from(self.first).ok()?,
+                len: usize::try_from(self.second).ok()?,
             }),
             UNKNOWN_SECTION => Some(Reason::UnknownSection {
                 id: u8::try_from(self.first).ok()?,

@@ -9,19 +9,8 @@ use Rattle.wasm_code.specs.declared.judging.Judgement.{Judgement}
 use Rattle.wasm_sections.specs.formats.ModuleSections.{ShortestWholeModule, module_section, whole_module}
 use Rattle.wasm_modules.specs.RefusalNumbers.{CountsParts}
 use Rattle.flat_refusals.specs.FlatRefusals.{flat_accepted, flat_refusal}
+use Rattle.flat_refusals.specs.declared.statuses.TheConstants.{NORMAL, REFUSED, NOT_NORMAL}
 use Rattle.flat_refusals.specs.declared.refusal.FlatRefusal.{FlatRefusal}
-
--- The status for a module that was canonical.
-abbrev pub was_canonical : ℕ
-was_canonical = 0
-
--- The status for a malformed module.
-abbrev pub was_malformed : ℕ
-was_malformed = 1
-
--- The status for a module that wasn't canonical.
-abbrev pub was_longer : ℕ
-was_longer = 2
 
 -- The numbers are those of a refusal whose offset lies in a module of this length, and whose place counts what `Counts`
 -- says.
@@ -34,28 +23,28 @@ pub record IsFlat (Counts : Refusal → Type 0) (len : ℕ) (told : FlatRefusal)
 -- The module `old` was replaced by its canonical form in place, which made it `new`.
 pub record Canonicalises (old new : List ℕ) (count : ℕ) (told : FlatRefusal) (status : ℕ) : Type 0 where
   -- The bytes begin with the canonical form of a well-formed module, and the count is its length.
-  pub within : status ≢ was_malformed → count ≤ length new
-  pub written : status ≢ was_malformed → IsNormalForm whole_module.Encodes whole_module.bytes old (take count new)
+  pub within : status ≢ REFUSED → count ≤ length new
+  pub written : status ≢ REFUSED → IsNormalForm whole_module.Encodes whole_module.bytes old (take count new)
   -- The module was its own canonical form, and the numbers are those of no refusal.
-  pub canonical : status ≡ was_canonical → EncodesSome ShortestWholeModule old
-  pub accepted : status ≡ was_canonical → told ≡ flat_accepted count
+  pub canonical : status ≡ NORMAL → EncodesSome ShortestWholeModule old
+  pub accepted : status ≡ NORMAL → told ≡ flat_accepted count
   -- It wasn't, and the refusal is at the end of the longest prefix that is minimally encoded.
-  pub longer : status ≡ was_longer → EncodesSome ShortestWholeModule old → ⊥
-  pub first : status ≡ was_longer → IsLongestPrefix (IsModulePrefixOf (minimal_only module_section)) old told.at
-  pub part : status ≡ was_longer → IsFlat (CountsSections (minimal_only module_section) old) (length old) told
+  pub longer : status ≡ NOT_NORMAL → EncodesSome ShortestWholeModule old → ⊥
+  pub first : status ≡ NOT_NORMAL → IsLongestPrefix (IsModulePrefixOf (minimal_only module_section)) old told.at
+  pub part : status ≡ NOT_NORMAL → IsFlat (CountsSections (minimal_only module_section) old) (length old) told
   -- Only a malformed module is refused, and the count is the length of the longest prefix that decodes.
-  pub refused : status ≡ was_malformed → IsLongestPrefix (IsModulePrefixOf module_section) old count
-  pub at : status ≡ was_malformed → told.at ≡ count
-  pub encodes_none : status ≡ was_malformed → EncodesSome whole_module.Encodes old → ⊥
-  pub place : status ≡ was_malformed → IsFlat (CountsParts module_section old) (length old) told
+  pub refused : status ≡ REFUSED → IsLongestPrefix (IsModulePrefixOf module_section) old count
+  pub at : status ≡ REFUSED → told.at ≡ count
+  pub encodes_none : status ≡ REFUSED → EncodesSome whole_module.Encodes old → ⊥
+  pub place : status ≡ REFUSED → IsFlat (CountsParts module_section old) (length old) told
   -- No other status is returned.
-  pub statuses : (status ≡ was_canonical) ⊎ (status ≡ was_malformed) ⊎ (status ≡ was_longer)
+  pub statuses : (status ≡ NORMAL) ⊎ (status ≡ REFUSED) ⊎ (status ≡ NOT_NORMAL)
 
 -- What a canonical module, one with a first part that isn't minimal, and a malformed one tell.
 abbrev pub IsJudged : ℕ → Option Refusal → ℕ → FlatRefusal → ℕ → Type 0
-IsJudged len None count told status = (status ≡ was_canonical) × (count ≡ len) × (told ≡ flat_accepted len)
-IsJudged len (Some refusal) count told status = (status ≡ was_longer) × (count ≡ len) × (told ≡ flat_refusal refusal)
+IsJudged len None count told status = (status ≡ NORMAL) × (count ≡ len) × (told ≡ flat_accepted len)
+IsJudged len (Some refusal) count told status = (status ≡ NOT_NORMAL) × (count ≡ len) × (told ≡ flat_refusal refusal)
 
 abbrev pub IsTold : Result Judgement Refusal → ℕ → FlatRefusal → ℕ → Type 0
 IsTold (Ok judged) count told status = IsJudged judged.len judged.longer count told status
-IsTold (Err refusal) count told status = (status ≡ was_malformed) × (count ≡ refusal.at) × (told ≡ flat_refusal refusal)
+IsTold (Err refusal) count told status = (status ≡ REFUSED) × (count ≡ refusal.at) × (told ≡ flat_refusal refusal)

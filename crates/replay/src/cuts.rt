@@ -85,7 +85,7 @@ fn check_end(reason: Reason, offset: usize, len: usize) -> Result<(), Mismatch> 
     match reason {
         Reason::UnexpectedEnd { .. } if offset == len => Ok(()),
         Reason::SizeTooLarge { .. } if offset < len => Ok(()),
-        Reason::NotAModule if len < 8 => Ok(()),
+        Reason::NotAModule { .. } if len < 8 => Ok(()),
         _ => Err(Mismatch::Reason),
     }
 }

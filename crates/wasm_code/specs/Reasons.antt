@@ -147,9 +147,23 @@ pub record HasOtherVersion (version : ℕ) (bytes : List ℕ) : Type 0 where
   pub version_is : version ≡ first + 256 * (second + 256 * (third + 256 * fourth))
   pub other : (version == 1) ≡ false
 
+-- The first four bytes as a number, the least first. Each that is missing counts as 0.
+abbrev pub first_four : List ℕ → ℕ
+first_four [] = 0
+first_four (a ∷ []) = a
+first_four (a ∷ b ∷ []) = a + 256 * b
+first_four (a ∷ b ∷ c ∷ []) = a + 256 * (b + 256 * c)
+first_four (a ∷ b ∷ c ∷ d ∷ rest) = a + 256 * (b + 256 * (c + 256 * d))
+
 -- The bytes don't begin with the magic number and a version.
 abbrev pub HasNoVersion : List ℕ → Type 0
 HasNoVersion bytes = (rest : List ℕ) → bytes ≡ 0x00 ∷ 0x61 ∷ 0x73 ∷ 0x6d ∷ rest → length rest < 4
+
+-- The bytes don't begin with the magic number and a version, but with these four, and there are `len` of them.
+pub record IsNoModule (first len : ℕ) (bytes : List ℕ) : Type 0 where
+  pub begins : first ≡ first_four bytes
+  pub len_is : len ≡ length bytes
+  pub none : HasNoVersion bytes
 
 -- ---- reasons
 
@@ -191,7 +205,7 @@ Holds strict reasons.MissingEnd body offset bytes = end_of body bytes ≡ Some o
 Holds strict (reasons.TrailingBytes count) body offset bytes = (0 < count) × (end_of body bytes ≡ Some (offset + count))
 Holds strict (reasons.SizeTooLarge size left) body offset bytes = HasTooLargeSize size left (end_of body bytes) (drop offset bytes) bytes
 Holds strict (reasons.InvalidUtf8 at) body offset bytes = IsNoName at offset body bytes
-Holds strict reasons.NotAModule body offset bytes = (body ≡ None) × (offset ≡ 0) × HasNoVersion bytes
+Holds strict (reasons.NotAModule first len) body offset bytes = (body ≡ None) × (offset ≡ 0) × IsNoModule first len bytes
 Holds strict (reasons.UnsupportedVersion version) body offset bytes = (body ≡ None) × (offset ≡ 0) × HasOtherVersion version bytes
 Holds strict (reasons.NotMinimal count minimal) body offset bytes = (strict ≡ true) × (0 < minimal) × (minimal < count) × LiesInBody body offset count bytes
 Holds strict reasons.LongForm body offset bytes = (strict ≡ true) × LiesInBody body offset 1 bytes

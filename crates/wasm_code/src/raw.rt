@@ -19,6 +19,7 @@ ghost use Rattle.wasm_codec.specs.Rewriter.{Rewrites};
 ghost use Rattle.wasm_codec.specs.Outcomes.{NeedsNoMemory, as_read};
 
 use crate::normaliser::framing::{rewrite_module_of, rewrite_section_body};
+use crate::reasons::first_four;
 use crate::section::{HEADER, RawSection};
 use std::alloc::Global;
 use wasm_codec::encode::leb128::u32_len;
@@ -63,7 +64,10 @@ fn not_a_module(bytes: &[u8]) -> Malformed
         [0x00, 0x61, 0x73, 0x6d, first, second, third, fourth, ..] => Reason::UnsupportedVersion {
             version: u32::from_le_bytes([*first, *second, *third, *fourth]),
         },
-        _ => Reason::NotAModule,
+        _ => Reason::NotAModule {
+            first: first_four(bytes),
+            len: bytes.len(),
+        },
     };
     Malformed::new(reason, bytes.len())
 }

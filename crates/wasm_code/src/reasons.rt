@@ -7,7 +7,7 @@ ghost use Rattle.wasm_codec.specs.Lawful.{head_of};
 ghost use Rattle.wasm_codec.specs.Places.{place};
 ghost use Rattle.wasm_codec.specs.formats.Bodies.{body_at};
 ghost use Rattle.wasm_codec.specs.declared.reader.malformed.Reason.TheVariants.{TrailingBytes};
-ghost use Rattle.wasm_code.specs.Reasons.{AgreesWith, BeginsWithU32, ErrorAgreesWith, HasBody, HasNoVersion, HasOtherVersion, HasTooLargeSize, Holds, HoldsAt, IsInside, IsNoName, IsOutOfRangeOf, IsTrueOf, IsUnknownOpcode, LiesInBody, begins_with, end_of, ends_within, prefix_byte, stands_for};
+ghost use Rattle.wasm_code.specs.Reasons.{AgreesWith, BeginsWithU32, ErrorAgreesWith, HasBody, HasNoVersion, HasOtherVersion, HasTooLargeSize, Holds, HoldsAt, IsInside, IsNoModule, IsNoName, IsOutOfRangeOf, IsTrueOf, IsUnknownOpcode, LiesInBody, begins_with, end_of, ends_within, first_four, prefix_byte, stands_for};
 
 use std::str;
 use wasm_codec::reader::DecodeError;
@@ -108,7 +108,9 @@ fn holds(refusal: &Refusal, bytes: &[u8], strict: bool) -> bool
             has_too_large_size(size, left, end_of(body, bytes), from(bytes, offset), bytes)
         }
         Reason::InvalidUtf8 { at } => is_no_name(at, offset, body, bytes),
-        Reason::NotAModule => body.is_none() && offset == 0 && has_no_version(bytes),
+        Reason::NotAModule { first, len } => {
+            body.is_none() && offset == 0 && is_no_module(first, len, bytes)
+        }
         Reason::UnsupportedVersion { version } => {
             body.is_none() && offset == 0 && has_other_version(version, bytes)
         }
@@ -395,6 +397,31 @@ fn is_no_name(at: u32, offset: usize, body: Option<usize>, bytes: &[u8]) -> bool
     };
     error.valid_up_to() == at as usize
         && offset as u128 + (name.len() as u128 + left as u128) == bytes.len() as u128 + at as u128
+}
+
+/// Checks whether the bytes don't begin with the magic number and a version, but with these four, and are `len`.
+fn is_no_module(first: u32, len: usize, bytes: &[u8]) -> bool
+    ensures { result ≡ true ↔ IsNoModule first len bytes.now }
+{
+    first == first_four(bytes) && len == bytes.len() && has_no_version(bytes)
+}
+
+/// Returns the first four bytes as a number, little-endian. Each that is missing counts as 0.
+pub(crate) fn first_four(bytes: &[u8]) -> u32
+    ensures { result ≡ first_four bytes.now }
+{
+    match bytes {
+        [] => 0,
+        [first] => u32::from(*first),
+        [first, second] => u32::from(*first) + 256 * u32::from(*second),
+        [first, second, third] => {
+            u32::from(*first) + 256 * (u32::from(*second) + 256 * u32::from(*third))
+        }
+        [first, second, third, fourth, ..] => {
+            let high = u32::from(*third) + 256 * u32::from(*fourth);
+            u32::from(*first) + 256 * (u32::from(*second) + 256 * high)
+        }
+    }
 }
 
 /// Checks whether the bytes don't begin with the magic number and a version.

@@ -6,6 +6,7 @@ ghost use Rattle.wasm_codec.specs.declared.reader.ReadError.TheVariants.{Memory,
 ghost use Rattle.wasm_codec.specs.declared.reader.DecodeError.TheVariants as decode_errors;
 ghost use Rattle.wasm_codec.specs.Outcomes.{LiesIn, IsNumbered, NeedsNoMemory, as_decoded, as_read, offset_of, error_of, item_of, item_of_fault, named_item, offsets_of, read_error_of};
 
+pub mod beginning;
 pub mod cursor;
 pub mod malformed;
 pub mod names;

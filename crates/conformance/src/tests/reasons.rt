@@ -5,7 +5,7 @@ use std::test::Fail;
 use wasm_encoder::reader::{Construct, DecodeError, Reason, Refusal, SectionPlace};
 
 /// Reasons and their texts.
-const REASONS: [(Reason, &str); 20] = [
+const REASONS: [(Reason, &str); 21] = [
     (
         Reason::NumberTooLong { most: 5 },
         "LEB128 number too long: more than 5 bytes",
@@ -75,8 +75,12 @@ const REASONS: [(Reason, &str); 20] = [
     (Reason::StrayDelimiter, "delegate outside of a block"),
     (Reason::UnknownSection { id: 14 }, "unknown section id 14"),
     (
+        Reason::UnsupportedVersion { version: 2 },
+        "unsupported version 0x2: expected 1",
+    ),
+    (
         Reason::UnsupportedVersion { version: 0x1000d },
-        "unsupported version 0x1000d: expected 1",
+        "unsupported version 0x1000d: expected 1, found a component",
     ),
     (
         Reason::NotMinimal {
@@ -127,8 +131,30 @@ const CONSTRUCTS: [(Construct, &str); 34] = [
     (Construct::HandlerClause, "clause"),
 ];
 
-/// The text for bytes that aren't a module.
-const NOT_A_MODULE: &str = "not a WebAssembly module: expected the header 00 61 73 6D 01 00 00 00";
+/// The text for bytes that aren't a module, before what they look like.
+const NOT_A_MODULE: &str =
+    "not a WebAssembly module: expected the header 00 61 73 6D 01 00 00 00, found ";
+
+/// The first four bytes of inputs that aren't modules, their lengths, and what they look like.
+const BEGINNINGS: [([u8; 4], usize, &str); 17] = [
+    ([0; 4], 0, "no bytes"),
+    ([0; 4], 1, "a cut header"),
+    (*b"\0as\0", 3, "a cut header"),
+    (*b"\0asm", 7, "a cut header"),
+    (*b"\x1f\x8b\x08\0", 20, "a gzip file"),
+    (*b"BC\xc0\xde", 20, "LLVM bitcode"),
+    (*b"!<ar", 20, "an `ar` archive"),
+    (*b"!<th", 20, "an `ar` archive"),
+    (*b"(mod", 20, "the text format"),
+    (*b"(com", 20, "the text format"),
+    (*b";; a", 20, "the text format"),
+    (*b"#!/b", 20, "text"),
+    (*b"\t~\r\n", 4, "text"),
+    (*b"a\0\0\0", 1, "text"),
+    (*b"abc\x7f", 20, "61 62 63 7F"),
+    (*b"\x7fELF", 20, "7F 45 4C 46"),
+    (*b"\0asn", 8, "00 61 73 6E"),
+];
 
 /// The sections and how a refusal in their second item begins.
 const SECTIONS: [(u8, &str); 14] = [
@@ -183,7 +209,17 @@ fn reasons(rt: HostRuntime) -> Result<(), Fail> {
     for (reason, text) in REASONS {
         says(rt.alloc(), reason, text)?;
     }
-    says(rt.alloc(), Reason::NotAModule, NOT_A_MODULE)
+    Ok(())
+}
+
+#[test]
+fn beginnings(rt: HostRuntime) -> Result<(), Fail> {
+    for (first, len, found) in BEGINNINGS {
+        let first = u32::from_le_bytes(first);
+        let text = format!(in rt.alloc(); "{NOT_A_MODULE}{found}")?;
+        says(rt.alloc(), Reason::NotAModule { first, len }, text.as_str())?;
+    }
+    Ok(())
 }
 
 #[test]

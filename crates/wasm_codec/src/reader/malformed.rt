@@ -2,6 +2,7 @@
 ghost use Rattle.std.specs.Prelude.{◌≡◌, Some, None};
 ghost use Rattle.wasm_codec.specs.declared.reader.cursor.Fault.TheVariants as faults;
 
+use crate::reader::beginning::{Beginning, OtherVersion};
 use crate::reader::cursor::Fault;
 use std::alloc::{AllocError, AllocFailed};
 use std::fmt;
@@ -126,6 +127,16 @@ fn bytes_word(count: &usize) -> &'static str {
     if *count == 1 { "byte" } else { "bytes" }
 }
 
+/// Returns the beginning of an input of `len` bytes with these first four.
+fn beginning(first: &u32, len: &usize) -> Beginning {
+    Beginning::new(*first, *len)
+}
+
+/// Returns a version that isn't that of a module.
+fn other_version(version: &u32) -> OtherVersion {
+    OtherVersion(*version)
+}
+
 /// Why bytes don't decode.
 #[derive(Clone, Copy, Debug, PartialEq, Eq, Error)]
 pub enum Reason {
@@ -216,10 +227,15 @@ pub enum Reason {
         id: u8,
     },
     /// The bytes don't begin with the header of a module.
-    #[error("not a WebAssembly module: expected the header 00 61 73 6D 01 00 00 00")]
-    NotAModule,
+    #[error("not a WebAssembly module: expected the header 00 61 73 6D 01 00 00 00, found {}", beginning(.first, .len))]
+    NotAModule {
+        /// The first four bytes, little-endian. Each that is missing counts as 0.
+        first: u32,
+        /// Number of bytes of the input.
+        len: usize,
+    },
     /// The bytes have another version than that of a module.
-    #[error("unsupported version 0x{version:x}: expected 1")]
+    #[error("unsupported version {}", other_version(.version))]
     UnsupportedVersion {
         /// The four bytes after the magic number, little-endian.
         version: u32,
