@@ -123,7 +123,7 @@ IN_ORDER = [TYPE + IMPORT + FUNCTION + b"\4\1\0\5\1\0\x0D\1\0\6\1\0" + EXPORT + 
 NO_HEADER = "offset 0x0: not a WebAssembly module: expected the header 00 61 73 6D 01 00 00 00"
 # Inputs that are no module: what each is, the message, and its beginning.
 FOREIGN = [(found, f"{NO_HEADER}, found {found}", data) for found, data in (
-    ("no bytes", b""), ("a part of it", b"\0as"), ("another version", b"\0asm\2"),
+    ("no bytes", b""), ("a cut header", b"\0as"), ("a cut header", b"\0asm\2"),
     ("an `ar` archive", b"!<arch>\nfoo.o/"), ("a gzip file", b"\x1F\x8B\x08\0\0\0\0\0\0"),
     ("LLVM bitcode", b"BC\xC0\xDE5\x14\0\0"), ("the text format", b"(module $a)"),
     ("text", b"#!/bin/sh\necho \xC3\xA4"), ("7F 45 4C 46", b"\x7FELF\2\1\1\0\0"),

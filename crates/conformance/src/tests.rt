@@ -1,6 +1,7 @@
 //! Worked examples, each public function on its happy path, and what no contract says. The rows of `replay` hold what is
 //! read, refused and normalised, and what is written in one call.
 
+mod contents;
 mod core_dumps;
 mod errors;
 mod expressions;

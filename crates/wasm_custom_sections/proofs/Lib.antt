@@ -10,6 +10,8 @@ pub mod HintLaws
 pub mod SymbolLaws
 pub mod LinkingLaws
 pub mod ContentsLaws
+pub mod LongerLaws
+pub mod LongerWalk
 pub mod WholeValueLaws
 pub mod CoreValueLaws
 pub mod CoreDumpLaws

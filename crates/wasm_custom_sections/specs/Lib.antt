@@ -7,4 +7,5 @@ pub mod LinkingSections
 pub mod CoreDumpSections
 pub mod KnownSections
 pub mod MinimalContents
+pub mod LongerContents
 pub mod formats

@@ -11,6 +11,7 @@ pub mod counted_bytes;
 pub mod custom_list;
 pub mod known;
 pub mod linking;
+pub mod longer_contents;
 pub mod name_maps;
 pub mod names;
 pub mod producers;

@@ -48,6 +48,7 @@ pub use wasm_modules::modules::{
 };
 pub use wasm_modules::order::{ModuleError, check_order, find_order_error};
 use wasm_sections::custom::append_front;
+pub use wasm_sections::contents::{Contents, read_contents, read_contents_strict};
 pub use wasm_sections::custom::{CustomSection, read_custom};
 pub use wasm_sections::data::{DataSection, DataSegment, DataSegmentMode};
 pub use wasm_sections::elements::{Element, ElementMode, ElementSection, Elements};

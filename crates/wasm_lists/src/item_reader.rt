@@ -242,9 +242,9 @@ fn read_item_if<'a, T: Readable<'a>>(
     }
 }
 
-/// Returns the same error, in bytes with `start` more in front.
+/// Returns the same error, with its offsets counted from `start` bytes further in front.
 #[cold]
-fn behind(error: DecodeError, start: usize) -> DecodeError
+pub fn behind(error: DecodeError, start: usize) -> DecodeError
     requires fits { HoldsAtRefusal (read_error_of error) (λ at. at + start < 2 ^ 64) }
     ensures moved { read_error_of result ≡ shifted start (read_error_of error) }
 {

@@ -1,3 +1,4 @@
+pub mod ContentsLaws
 pub mod ListSectionLaws
 pub mod ItemLaws
 pub mod EntryLaws

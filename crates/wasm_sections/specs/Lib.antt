@@ -4,6 +4,7 @@ pub mod ElementSections
 pub mod NumberSections
 pub mod ClosedEntries
 pub mod SectionBytes
+pub mod SectionContents
 pub mod WrittenSections
 pub mod SegmentBytes
 pub mod Prefixes

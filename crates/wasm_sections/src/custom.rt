@@ -55,7 +55,7 @@ pub fn read_custom<'a>(body: &'a [u8]) -> Result<CustomSection<'a>, ReadError>
 }
 
 /// Reads a custom section body, in any encoding. Refuses at 0 if the name is malformed.
-fn read_name_and_bytes<'a>(body: &'a [u8]) -> Result<CustomSection<'a>, DecodeError>
+pub(crate) fn read_name_and_bytes<'a>(body: &'a [u8]) -> Result<CustomSection<'a>, DecodeError>
     ensures reads { ReadsAll custom_parts custom_body.Encodes (IsNothingOr custom_body) body.now (as_read result) }
     ensures memory { NeedsNoMemory (as_read result) }
     ensures place { IfErr result (LiesIn (length body.now)) }
@@ -76,7 +76,9 @@ fn read_name_and_bytes<'a>(body: &'a [u8]) -> Result<CustomSection<'a>, DecodeEr
 }
 
 /// Reads a minimally encoded custom section body. Refuses at 0 if the name is malformed or its length not minimal.
-fn read_name_and_bytes_strict<'a>(body: &'a [u8]) -> Result<CustomSection<'a>, DecodeError>
+pub(crate) fn read_name_and_bytes_strict<'a>(
+    body: &'a [u8],
+) -> Result<CustomSection<'a>, DecodeError>
     ensures reads { ReadsAll custom_parts (minimal_only custom_body).Encodes (IsNothingOr (minimal_only custom_body)) body.now (as_read result) }
     ensures memory { NeedsNoMemory (as_read result) }
     ensures place { IfErr result (LiesIn (length body.now)) }

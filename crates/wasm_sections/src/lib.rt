@@ -3,6 +3,7 @@
 #![tactic(auto)]
 
 pub mod bodies;
+pub mod contents;
 pub mod custom;
 pub mod data;
 pub mod elements;

@@ -1,10 +1,10 @@
 -- What holds of the results of runs, told otherwise.
-use Rattle.std.proofs.Common.{refl, sym, subst, ◌≡◌, ◌∙◌, ℕ, Bool, true, false, List, Option, Some, None, Result, Ok, Err, inl}
+use Rattle.std.proofs.Common.{refl, sym, subst, ◌≡◌, ◌∙◌, ℕ, Bool, true, false, List, Option, Some, None, Result, Ok, Err, inl, inr}
 use Rattle.std.proofs.lemmas.Bool.{true≢false}
 use Rattle.std.specs.Global.{Vec}
 use Rattle.std.specs.Prelude.{IfSome}
 use Rattle.wasm_codec.specs.Decoding.{Checks, NormalisesInPlace, RewritesInPlace}
-use Rattle.wasm_codec.specs.Outcomes.{as_read, place_alone}
+use Rattle.wasm_codec.specs.Outcomes.{EncodesSome, as_read, place_alone}
 use Rattle.wasm_codec.specs.declared.reader.DecodeError.{DecodeError}
 use Rattle.wasm_codec.specs.declared.reader.DecodeError.TheVariants as decode_errors
 use Rattle.wasm_codec.specs.declared.reader.refusal.Refusal.{Refusal}
@@ -14,13 +14,12 @@ use Rattle.wasm_code.specs.Judging.{verdict_of}
 use Rattle.wasm_code.specs.Modules.{IsModulePrefixOf}
 use Rattle.wasm_sections.specs.formats.ModuleSections.{KeepsMinimal, ShortestWholeModule, module_section, whole_module}
 use Rattle.wasm_sections.proofs.RawSections.{minimal_normal, normal_minimal}
-use Rattle.wasm_custom_sections.specs.MinimalContents.{MinimisesContents}
+use Rattle.wasm_custom_sections.specs.LongerContents.{HasLongerContents, IsFirstLonger}
 use Rattle.wasm_modules.specs.Selections.{IsChosen}
 use Rattle.wasm_modules.specs.declared.order.ModuleError.{ModuleError}
 use Rattle.wasm_modules.specs.ModuleOrder.{OfModule, IsWhyNot}
 use Rattle.wasm_modules.specs.ModuleOrder as order
-use Rattle.wasmcanon.specs.Run.{Accepts, HasContents, HasLongerContents, IsCanonicalForm, IsForm, IsLonger, IsReadFailure, Judges}
-use Rattle.wasmcanon.specs.declared.foreign.Foreign.{Foreign}
+use Rattle.wasmcanon.specs.Run.{Accepts, HasContents, IsCanonicalForm, IsForm, IsLonger, IsReadFailure, Judges}
 use Rattle.wasmcanon.specs.declared.order.MisplacedSection.{MisplacedSection}
 use Rattle.wasmcanon.specs.declared.run.FormOptions.{FormOptions}
 use Rattle.wasmcanon.specs.declared.run.Verdict.{Verdict}
@@ -49,6 +48,10 @@ longer_judged names input bytes refusal form check = by names where
   by false = ((form.given.value, form.given.encoded), longer)
   by true = ((form.given.value, form.given.encoded), inl longer)
 
+-- a canonical module whose contents are longer
+pub longer_contents : (input : List ℕ) (refusal : Refusal) → HasLongerContents input → (EncodesSome ShortestWholeModule input → IsFirstLonger input refusal.at) → IsCanonicalForm input input → Judges true input (verdicts.Longer refusal)
+longer_contents input refusal longer first canonical = ((canonical.value, canonical.encoded), inr (canonical, (longer, first (normal_minimal input input canonical))))
+
 -- ---- canonical forms
 
 -- the form of an input that is known
@@ -63,10 +66,6 @@ is_form (Some input) options encoding part bytes canonical chosen keeps contents
   stays = minimal_normal bytes (still (keeps (normal_minimal input encoding canonical)));
 }
 
--- contents that a copy shows to be longer
-pub contents_differ : (input copy minimal : List ℕ) → copy ≡ input → MinimisesContents copy minimal → (minimal ≡ input → ⊥) → HasLongerContents input
-contents_differ input copy minimal same minimised differs = record { minimal = minimal; minimised = subst (λ (b : List ℕ). MinimisesContents b minimal) same minimised; differs = differs }
-
 -- ---- the place of a refusal
 
 -- what is known of the place without its reason
@@ -76,8 +75,8 @@ placed bytes refusal c = record { sections = c.sections; items = c.items }
 -- ---- inputs that are accepted or refused
 
 -- a module that was refused while its sections were shown
-pub shown_refused : (input old new : List ℕ) (result : Result ℕ DecodeError) (refusal : Refusal) (foreign : Option Foreign) → old ≡ input → result ≡ Err (decode_errors.Malformed refusal) → RewritesInPlace whole_module (IsModulePrefixOf module_section) old new (as_read result) → Accepts true input (Err (failures.Refused refusal foreign))
-shown_refused input old new result refusal foreign same is rewrites =
+pub shown_refused : (input old new : List ℕ) (result : Result ℕ DecodeError) (refusal : Refusal) → old ≡ input → result ≡ Err (decode_errors.Malformed refusal) → RewritesInPlace whole_module (IsModulePrefixOf module_section) old new (as_read result) → Accepts true input (Err (failures.Refused refusal))
+shown_refused input old new result refusal same is rewrites =
     let failed : Result ℕ DecodeError = Err (decode_errors.Malformed refusal) in
     let refused = subst (λ (r : Result ℕ DecodeError). RewritesInPlace whole_module (IsModulePrefixOf module_section) old new (as_read r)) is rewrites in
     let here = subst (λ (bytes : List ℕ). RewritesInPlace whole_module (IsModulePrefixOf module_section) bytes new (as_read failed)) same refused in
@@ -85,7 +84,7 @@ shown_refused input old new result refusal foreign same is rewrites =
 
 -- a run that fails to read refuses nothing
 pub failed_to_read : (any_order : Bool) (input : List ℕ) (failure : Failure) → IsReadFailure failure → Accepts any_order input (Err failure)
-failed_to_read any_order input (failures.Refused refusal foreign) is = absurd is
+failed_to_read any_order input (failures.Refused refusal) is = absurd is
 failed_to_read any_order input (failures.Disordered error place) is = absurd is
 failed_to_read any_order input failures.ObjectFile is = absurd is
 failed_to_read any_order input failures.Memory is = record { in_order = λ _. tt; disordered = tt; unencoded = tt; refused = tt }
@@ -94,7 +93,7 @@ failed_to_read any_order input (failures.Write error) is = absurd is
 
 -- The failure is `Write`.
 abbrev pub IsWriteFailure : Failure → Type 0
-IsWriteFailure (failures.Refused refusal foreign) = ⊥
+IsWriteFailure (failures.Refused refusal) = ⊥
 IsWriteFailure (failures.Disordered error place) = ⊥
 IsWriteFailure failures.ObjectFile = ⊥
 IsWriteFailure failures.Memory = ⊥
@@ -103,7 +102,7 @@ IsWriteFailure (failures.Write error) = Unit {0}
 
 -- nor does one that fails to write
 pub failed_to_write : (any_order : Bool) (input : List ℕ) (failure : Failure) → IsWriteFailure failure → Accepts any_order input (Err failure)
-failed_to_write any_order input (failures.Refused refusal foreign) is = absurd is
+failed_to_write any_order input (failures.Refused refusal) is = absurd is
 failed_to_write any_order input (failures.Disordered error place) is = absurd is
 failed_to_write any_order input failures.ObjectFile is = absurd is
 failed_to_write any_order input failures.Memory is = absurd is
@@ -127,7 +126,7 @@ not_checked input = record { in_order = λ same. absurd (true≢false same); dis
 
 -- what is refused in any order is refused in order too
 pub refused_in_order : (any_order : Bool) (input : List ℕ) (failure : Failure) → Accepts true input (Err failure) → Accepts any_order input (Err failure)
-refused_in_order any_order input (failures.Refused refusal foreign) a = record { in_order = λ _. tt; disordered = tt; unencoded = a.unencoded; refused = a.refused }
+refused_in_order any_order input (failures.Refused refusal) a = record { in_order = λ _. tt; disordered = tt; unencoded = a.unencoded; refused = a.refused }
 refused_in_order any_order input (failures.Disordered error place) a = absurd (true≢false a.disordered.0)
 refused_in_order any_order input failures.ObjectFile a = record { in_order = λ _. tt; disordered = tt; unencoded = tt; refused = tt }
 refused_in_order any_order input failures.Memory a = record { in_order = λ _. tt; disordered = tt; unencoded = tt; refused = tt }

@@ -11,6 +11,7 @@ use Rattle.wasm_code.specs.Modules.{IsModulePrefixOf}
 use Rattle.wasm_modules.specs.declared.order.ModuleError.{ModuleError}
 use Rattle.sha2.specs.Sha256.{sha256}
 use Rattle.wasm_modules.specs.Selections.{IsChosen}
+use Rattle.wasm_custom_sections.specs.LongerContents.{HasLongerContents, IsFirstLonger}
 use Rattle.wasm_custom_sections.specs.MinimalContents.{MinimisesContents}
 use Rattle.wasm_modules.specs.ModuleOrder.{OfModule, IsWhyNot}
 use Rattle.wasm_modules.specs.ModuleOrder as order
@@ -75,30 +76,24 @@ pub record IsHash (options : FormOptions) (input digest : List ℕ) : Type 0 whe
 abbrev pub HasMinimalContents : List ℕ → Type 0
 HasMinimalContents input = MinimisesContents input input
 
--- Minimising the contents of the module changes it.
-pub record HasLongerContents (input : List ℕ) : Type 0 where
-  pub minimal : List ℕ
-  pub minimised : MinimisesContents input minimal
-  pub differs : minimal ≡ input → ⊥
-
 -- The longest canonical prefix of the input, which isn't canonical, ends at this offset.
 abbrev pub IsLonger : List ℕ → ℕ → Type 0
 IsLonger input at = (IsCanonicalForm input input → ⊥) × IsLongestPrefix (IsModulePrefixOf (minimal_only module_section)) input at
 
 -- The verdict is right: the input is canonical, or its longest canonical prefix ends at this offset. With `names`, its
--- contents are minimal too, or the input is canonical and its contents aren't minimal.
+-- contents are minimal too, or the input is canonical, and the first section whose contents aren't begins there.
 abbrev pub Judges : Bool → List ℕ → Verdict → Type 0
 Judges false input verdicts.Canonical = IsCanonicalForm input input
 Judges true input verdicts.Canonical = IsCanonicalForm input input × HasMinimalContents input
 Judges false input (verdicts.Longer refusal) = IsModule input × IsLonger input refusal.at
-Judges true input (verdicts.Longer refusal) = IsModule input × (IsLonger input refusal.at ⊎ (IsCanonicalForm input input × HasLongerContents input))
+Judges true input (verdicts.Longer refusal) = IsModule input × (IsLonger input refusal.at ⊎ (IsCanonicalForm input input × HasLongerContents input × IsFirstLonger input refusal.at))
 
 -- ---- results
 
 -- If the run refuses its input, the property holds of the offset that it reports.
 abbrev pub IfRefused : {X : Type 0} → Result X Failure → (ℕ → Type 0) → Type 0
 IfRefused (Ok x) P = Unit {0}
-IfRefused (Err (failures.Refused refusal foreign)) P = P refusal.at
+IfRefused (Err (failures.Refused refusal)) P = P refusal.at
 IfRefused (Err (failures.Disordered error place)) P = Unit {0}
 IfRefused (Err failures.ObjectFile) P = Unit {0}
 IfRefused (Err failures.Memory) P = Unit {0}
@@ -108,7 +103,7 @@ IfRefused (Err (failures.Write error)) P = Unit {0}
 -- If the run refuses its input, the property holds of the place that it reports.
 abbrev pub IfPlaced : {X : Type 0} → Result X Failure → (Refusal → Type 0) → Type 0
 IfPlaced (Ok x) P = Unit {0}
-IfPlaced (Err (failures.Refused refusal foreign)) P = P refusal
+IfPlaced (Err (failures.Refused refusal)) P = P refusal
 IfPlaced (Err (failures.Disordered error place)) P = Unit {0}
 IfPlaced (Err failures.ObjectFile) P = Unit {0}
 IfPlaced (Err failures.Memory) P = Unit {0}
@@ -118,7 +113,7 @@ IfPlaced (Err (failures.Write error)) P = Unit {0}
 -- If the run fails because the sections break a rule, the property holds of the error that it reports.
 abbrev pub IfDisordered : {X : Type 0} → Result X Failure → (ModuleError → Type 0) → Type 0
 IfDisordered (Ok x) P = Unit {0}
-IfDisordered (Err (failures.Refused refusal foreign)) P = Unit {0}
+IfDisordered (Err (failures.Refused refusal)) P = Unit {0}
 IfDisordered (Err (failures.Disordered error place)) P = P error
 IfDisordered (Err failures.ObjectFile) P = Unit {0}
 IfDisordered (Err failures.Memory) P = Unit {0}
@@ -144,7 +139,7 @@ pub record Accepts (any_order : Bool) (input : List ℕ) (outcome : Result (Unit
 -- The property holds of each result that is returned after all input was read.
 abbrev pub OnceAllIsRead : {X : Type 0} → Result X Failure → Type 0 → Type 0
 OnceAllIsRead (Ok x) P = P
-OnceAllIsRead (Err (failures.Refused refusal foreign)) P = P
+OnceAllIsRead (Err (failures.Refused refusal)) P = P
 OnceAllIsRead (Err (failures.Disordered error place)) P = P
 OnceAllIsRead (Err failures.ObjectFile) P = P
 OnceAllIsRead (Err failures.Memory) P = Unit {0}
@@ -154,7 +149,7 @@ OnceAllIsRead (Err (failures.Write error)) P = P
 -- The property holds of each failure but that of a write.
 abbrev pub BeforeAnyWrite : {X : Type 0} → Result X Failure → Type 0 → Type 0
 BeforeAnyWrite (Ok x) P = Unit {0}
-BeforeAnyWrite (Err (failures.Refused refusal foreign)) P = P
+BeforeAnyWrite (Err (failures.Refused refusal)) P = P
 BeforeAnyWrite (Err (failures.Disordered error place)) P = P
 BeforeAnyWrite (Err failures.ObjectFile) P = P
 BeforeAnyWrite (Err failures.Memory) P = P
@@ -164,7 +159,7 @@ BeforeAnyWrite (Err (failures.Write error)) P = Unit {0}
 -- The property holds if a write failed.
 abbrev pub IfWriteFailed : {X : Type 0} → Result X Failure → Type 0 → Type 0
 IfWriteFailed (Ok x) P = Unit {0}
-IfWriteFailed (Err (failures.Refused refusal foreign)) P = Unit {0}
+IfWriteFailed (Err (failures.Refused refusal)) P = Unit {0}
 IfWriteFailed (Err (failures.Disordered error place)) P = Unit {0}
 IfWriteFailed (Err failures.ObjectFile) P = Unit {0}
 IfWriteFailed (Err failures.Memory) P = Unit {0}
@@ -174,7 +169,7 @@ IfWriteFailed (Err (failures.Write error)) P = P
 -- The call writes nothing, so it fails neither with `Write` nor with `ObjectFile`.
 abbrev pub NeverWrites : {X : Type 0} → Result X Failure → Type 0
 NeverWrites (Ok x) = Unit {0}
-NeverWrites (Err (failures.Refused refusal foreign)) = Unit {0}
+NeverWrites (Err (failures.Refused refusal)) = Unit {0}
 NeverWrites (Err (failures.Disordered error place)) = Unit {0}
 NeverWrites (Err failures.ObjectFile) = ⊥
 NeverWrites (Err failures.Memory) = Unit {0}
@@ -184,7 +179,7 @@ NeverWrites (Err (failures.Write error)) = ⊥
 -- The property holds if the module isn't written because it is an object file.
 abbrev pub IfObjectFile : {X : Type 0} → Result X Failure → Type 0 → Type 0
 IfObjectFile (Ok x) P = Unit {0}
-IfObjectFile (Err (failures.Refused refusal foreign)) P = Unit {0}
+IfObjectFile (Err (failures.Refused refusal)) P = Unit {0}
 IfObjectFile (Err (failures.Disordered error place)) P = Unit {0}
 IfObjectFile (Err failures.ObjectFile) P = P
 IfObjectFile (Err failures.Memory) P = Unit {0}
@@ -193,7 +188,7 @@ IfObjectFile (Err (failures.Write error)) P = Unit {0}
 
 -- The failure is `Memory` or `Read`.
 abbrev pub IsReadFailure : Failure → Type 0
-IsReadFailure (failures.Refused refusal foreign) = ⊥
+IsReadFailure (failures.Refused refusal) = ⊥
 IsReadFailure (failures.Disordered error place) = ⊥
 IsReadFailure failures.ObjectFile = ⊥
 IsReadFailure failures.Memory = Unit {0}
@@ -202,7 +197,7 @@ IsReadFailure (failures.Write error) = ⊥
 
 -- The exit status of a run that failed so.
 abbrev pub status_of : Failure → ℕ
-status_of (failures.Refused refusal foreign) = 1
+status_of (failures.Refused refusal) = 1
 status_of (failures.Disordered error place) = 1
 status_of failures.ObjectFile = 2
 status_of failures.Memory = 3

@@ -23,7 +23,7 @@ pub fn failure_value(
     let mut object = Object::new(alloc);
     object.put("file", input.word())?;
     object.put_display("error", message)?;
-    if let Failure::Refused { refusal, .. } = message.failure {
+    if let Failure::Refused(refusal) = message.failure {
         put_refusal(&mut object, refusal)?;
     }
     Ok(object.into_value())

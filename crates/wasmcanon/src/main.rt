@@ -9,7 +9,6 @@ mod actions;
 mod contents;
 mod differences;
 mod files;
-mod foreign;
 mod job;
 mod json;
 mod listings;

@@ -20,13 +20,7 @@ impl fmt::Display for FailureMessage<'_, '_, '_> {
     fn fmt<W: fmt::Write>(&self, f: &mut fmt::Formatter<W>) -> fmt::Result {
         let input = InputName(self.input);
         match self.failure {
-            Failure::Refused { refusal, foreign } => {
-                write!(f, "{input}: {refusal}")?;
-                match foreign {
-                    Some(found) => write!(f, ", found {found}"),
-                    None => Ok(()),
-                }
-            }
+            Failure::Refused(refusal) => write!(f, "{input}: {refusal}"),
             Failure::Disordered { error, section } => {
                 let section = *section;
                 write!(f, "{input}: {}", DisorderMessage { error, section })

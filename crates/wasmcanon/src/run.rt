@@ -10,7 +10,6 @@ ghost use Rattle.wasmcanon.specs.StaleSections.{NamesStale};
 ghost use Rattle.wasmcanon.specs.declared.run.Failure.TheVariants.{Memory};
 
 use crate::contents::{judge_contents, with_contents};
-use crate::foreign::Foreign;
 use crate::objects::is_object_file;
 use crate::offsets::stale_names;
 use crate::order::{MisplacedSection, check_sections};
@@ -33,12 +32,9 @@ use wasm_modules::selection::{Sections, choose_sections};
 #[derive(Drop)]
 pub enum Failure {
     /// The input is malformed.
-    Refused {
-        /// Why and where. `at` is the offset of the first malformed section, or 0 if the header is malformed.
-        refusal: Refusal,
-        /// What the input is instead of a module, if its header is malformed.
-        foreign: Option<Foreign>,
-    },
+    ///
+    /// `at` is the offset of the first malformed section, or 0 if the header is malformed.
+    Refused(Refusal),
     /// The sections are out of order, or their counts disagree.
     Disordered {
         /// The rule that the sections break.
@@ -63,7 +59,7 @@ impl Failure {
         ensures { result ≡ status_of self.now }
     {
         match self {
-            Failure::Refused { .. } | Failure::Disordered { .. } => 1,
+            Failure::Refused(_) | Failure::Disordered { .. } => 1,
             Failure::ObjectFile => 2,
             Failure::Memory => 3,
             Failure::Read(_) | Failure::Write(_) => 4,
@@ -364,7 +360,6 @@ fn judge(alloc: Global, input: Vec<u8>, names: bool) -> Result<Verdict, Failure>
     ensures accepts { Accepts true input.items (outcome_of result) }
     ensures numbers { IfPlaced result (CountsParts module_section input.items) }
 {
-    let foreign = Foreign::find(&input);
     match judge_whole_module(input) {
         Ok(judged) => match judged.longer {
             None => {
@@ -375,10 +370,7 @@ fn judge(alloc: Global, input: Vec<u8>, names: bool) -> Result<Verdict, Failure>
             Some(refusal) => Ok(Verdict::Longer(refusal)),
         },
         Err(DecodeError::Memory) => Err(Failure::Memory),
-        Err(DecodeError::Malformed(broken)) => Err(Failure::Refused {
-            refusal: broken,
-            foreign,
-        }),
+        Err(DecodeError::Malformed(broken)) => Err(Failure::Refused(broken)),
     }
 }
 
@@ -388,15 +380,11 @@ fn show_sections<S: SectionWatcher>(input: Vec<u8>, watcher: &mut S) -> Result<(
     ensures shows { OnOk result (ShowsModule S.Sees S.Takes input.items watcher.old watcher.new) }
     ensures accepts { Accepts true input.items (outcome_of result) }
 {
-    let foreign = Foreign::find(&input);
     let mut input = input;
     match rewrite_watched(input.as_mut_slice(), watcher) {
         Ok(_) => Ok(()),
         Err(DecodeError::Memory) => Err(Failure::Memory),
-        Err(DecodeError::Malformed(malformed)) => Err(Failure::Refused {
-            refusal: malformed,
-            foreign,
-        }),
+        Err(DecodeError::Malformed(malformed)) => Err(Failure::Refused(malformed)),
     }
 }
 
@@ -408,11 +396,10 @@ fn canonical_form(input: Vec<u8>) -> Result<Vec<u8>, Failure>
     ensures numbers { IfPlaced result (CountsParts module_section input.items) }
     ensures unwritten { NeverWrites result }
 {
-    let foreign = Foreign::find(&input);
     match rewrite::<WholeModule>(input) {
         Ok(canonical) => Ok(canonical),
         Err(DecodeError::Memory) => Err(Failure::Memory),
-        Err(DecodeError::Malformed(refusal)) => Err(Failure::Refused { refusal, foreign }),
+        Err(DecodeError::Malformed(refusal)) => Err(Failure::Refused(refusal)),
     }
 }
 

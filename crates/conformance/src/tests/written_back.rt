@@ -9,7 +9,7 @@ use wasm_encoder::{
 };
 
 /// A section of each kind: its minimal encoding, and a longer one.
-const ROWS: [(SectionId, &str, &str); 14] = [
+pub(super) const ROWS: [(SectionId, &str, &str); 14] = [
     // the section `note` with the contents `hi`; the name's length padded
     (
         SectionId::Custom,
@@ -57,7 +57,7 @@ const ROWS: [(SectionId, &str, &str); 14] = [
 ];
 
 /// A module of the sections in their minimal encodings, or in the longer ones.
-fn module_of_all(alloc: Global, padded: bool) -> Result<Vec<u8>, Fail> {
+pub(super) fn module_of_all(alloc: Global, padded: bool) -> Result<Vec<u8>, Fail> {
     let mut bytes = Vec::from_slice(alloc, &Module::HEADER)?;
     for (_, minimal, longer) in &ROWS {
         let section = hex::decode(alloc, if padded { longer } else { minimal })?;
