@@ -184,6 +184,15 @@ STALE_SECTIONS = (b"\0\x86\0\5linki\0\x08\7linking\0\x0B\x0Areloc.CODE\0\2\1a\0\
                   b"\0\x0E\x0Dmetadata.code\0\x0F\x0Emetadata.code.")
 STALE_NAMES = "linking, reloc.CODE, .debug_\\u{1b}x, metadata.code."
 
+# A type, an imported function and two functions; and branch hints of the first, whose code is padded and then isn't:
+# after a local and `local.get`, `if` with a hint, `end`, `local.get`, `br_if` with a hint, and `end`.
+HINTS = b"\0\x23\x19metadata.code.branch_hint\1\1\2"
+UNHINTED = HEADER + bytes.fromhex("01040160000002070101610162000003030200 00")
+HINTED = UNHINTED + HINTS + bytes.fromhex("0901010F0100 0A170212018180007F2080800004400B2080000D000B02000B")
+HINTS_MOVED = UNHINTED + HINTS + bytes.fromhex("0501010A0100 0A12020D01017F200004400B20000D000B02000B")
+# The same, with a hint inside an instruction.
+HINTED_NOWHERE = HINTED.replace(b"\x0F\1\0", b"\x10\1\0")
+
 NO_NUMBER = "unexpected end: expected LEB128 number"
 # Malformed modules: what each is, the message, and the bytes after the header and an empty type section, from 0xb on.
 MALFORMED = [

@@ -13,10 +13,11 @@ from parts.common import HELP, ROOT, both_programs, lacks, read_terminal, room, 
 from parts.listing_cases import (ALL_DIFFERENCES, CALL_AS_JSON, CUT_LISTINGS, EVERY, EVERY_AS_JSON, FUNCTION_NAMES,
                                  INSTRUCTIONS, LISTING, LISTINGS, NAMED_IMPORT, code)
 from parts.listing_runs import list_in, try_chosen_sections, try_contents, try_places
-from parts.wasmcanon_cases import (CUT, CUT_AS_JSON, DISORDERED, ENCODINGS, FILES, FOREIGN, FUNCTION, HEADER, IN_ORDER,
-                                   LONGER, LONG_AS_JSON, LONG_SIZE, MALFORMED, NAMES, NO, NOT_CANONICAL, NO_HEADER,
-                                   PADDED_DATA_USE, PADDED_NAMES, PADDED_PRODUCERS, PATTERNS, PATTERN_NAMES, PRODUCERS,
-                                   REPORT, REPORT_OF_NAMES, REPORT_OF_NUMBERS, STALE, STALE_NAMES, STALE_SECTIONS, TYPE)
+from parts.wasmcanon_cases import (CUT, CUT_AS_JSON, DISORDERED, ENCODINGS, FILES, FOREIGN, FUNCTION, HEADER, HINTED,
+                                   HINTED_NOWHERE, HINTS_MOVED, IN_ORDER, LONGER, LONG_AS_JSON, LONG_SIZE, MALFORMED,
+                                   NAMES, NO, NOT_CANONICAL, NO_HEADER, PADDED_DATA_USE, PADDED_NAMES,
+                                   PADDED_PRODUCERS, PATTERNS, PATTERN_NAMES, PRODUCERS, REPORT, REPORT_OF_NAMES,
+                                   REPORT_OF_NUMBERS, STALE, STALE_NAMES, STALE_SECTIONS, TYPE)
 from parts.wasmcanon_files import (try_links, try_names_not_text, try_object_files, try_outputs, try_read_only,
                                    try_several)
 
@@ -109,6 +110,33 @@ def try_hashes(runs):
 
 def stale(file, names=".debug_"):
     return STALE.format(file=file, names=names)
+
+
+def hinted_instructions(listing):
+    """The instruction at each branch hint of a listing, or `None`. The sizes of functions have one byte."""
+    calls = dict(re.findall(r"^ (\w{6}): .*\| ([^;\n]*)", listing, re.MULTILINE))
+    functions = re.findall(r"^ (\w{6}) +\d+ \| func\[(\d+)\]$", listing, re.MULTILINE)
+    starts = {index: int(at, 16) + 1 for at, index in functions}
+    hints = re.findall(r"\| func\[(\d+)\] offset (\d+) (\w+)$", listing, re.MULTILINE)
+    return [(calls.get(f"{starts[index] + int(offset):06x}"), likely) for index, offset, likely in hints]
+
+
+def try_hints(runs):
+    for name, data in ("hinted", HINTED), ("hints_moved", HINTS_MOVED), ("hinted_nowhere", HINTED_NOWHERE):
+        (runs.room / name).write_bytes(data)
+    for name in "hinted", "hints_moved":
+        runs.run("--list", name)
+        right = hinted_instructions(runs.out.decode()) == [("if", "likely"), ("br_if 0", "unlikely")]
+        runs.holds(f"instructions of {name}", right)
+        runs.holds(f"{name}, written", runs.writes(name, data=HINTS_MOVED))
+        runs.run("--hash", name)
+        runs.holds(f"a hash of {name}", runs.out.decode() == f"{sum_of(HINTS_MOVED)}  {name}\n")
+    for words in ["--diff"], ["--diff", "--all"]:
+        runs.holds(f"{' '.join(words)}, moved hints", runs.answers(0, "", *words, "hinted", "hints_moved"))
+    runs.holds("moved hints, checked", runs.answers(0, "", "--check", "hints_moved"))
+    runs.run("hinted_nowhere")
+    wanted = stale("hinted_nowhere", "metadata.code.branch_hint")
+    runs.holds("a warning of hints that can't move", runs.status == 0 and runs.err == wanted)
 
 
 def custom_section(name):
@@ -779,7 +807,7 @@ def run(report):
         for program in both_programs(report, "wasmcanon"):
             runs = Runs(report, program, folder)
             for attempt in (try_outputs, try_links, try_read_only, try_object_files, try_several, try_names_not_text,
-                            try_checks, try_quiet, try_memory, try_order, try_hashes, try_selections,
+                            try_checks, try_quiet, try_memory, try_order, try_hashes, try_hints, try_selections,
                             try_unused_patterns, try_names, try_foreign, try_json, try_offsets, try_differences,
                             try_reports, try_listings, try_contents, try_chosen_sections, try_listings_as_json,
                             try_all_differences, try_places, try_refusals, try_malformed, try_mistaken_options,

@@ -82,7 +82,8 @@ Examples:
 
 Canonicalising moves bytes, so offsets in custom sections become stale: those in
 `linking`, `reloc.*`, `.debug_*`, `external_debug_info`, `sourceMappingURL` and
-`metadata.code.*`. wasmcanon warns if bytes have moved and such a section is
+`metadata.code.*`. But branch hints, in `metadata.code.branch_hint`, move with
+their instructions. wasmcanon warns if bytes have moved and such a section is
 kept; --strip-offsets drops them all. A module with `linking` or `reloc.*` is
 an object file: canonicalise after linking.
 

@@ -13,6 +13,7 @@ mod iterators;
 mod lists;
 mod module_writer;
 mod modules;
+mod moved_hints;
 mod operands;
 mod own;
 mod reading;

@@ -16,3 +16,6 @@ pub mod WholeValueLaws
 pub mod CoreValueLaws
 pub mod CoreDumpLaws
 pub mod CoreStackLaws
+pub mod MovedOffsetLaws
+pub mod MovedFunctionLaws
+pub mod MovedModuleLaws

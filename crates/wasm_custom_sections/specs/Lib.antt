@@ -8,4 +8,7 @@ pub mod CoreDumpSections
 pub mod KnownSections
 pub mod MinimalContents
 pub mod LongerContents
+pub mod MovedOffsets
+pub mod MovedFunctions
+pub mod MovedHints
 pub mod formats

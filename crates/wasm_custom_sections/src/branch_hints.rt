@@ -278,6 +278,27 @@ impl<'a> Encode for HintsOf<'a> {
     }
 }
 
+/// The index of the function, the number of hints, and the hints.
+///
+/// Fails with `TooLong` if there are more than 4,294,967,295 hints.
+impl Encode for FunctionHints {
+    ghost bytes = { function_hints.bytes };
+
+    ghost IsWritten = { IsShortest function_hints.Encodes function_hints.bytes };
+
+    ghost CanEncode = { λ function. IsCount (length function.hints) };
+
+    ghost refuses = { OnlyTooLong };
+
+    fn encode<A: Allocator>(&self, sink: &mut Vec<u8, A>) -> Result<(), EncodeError> {
+        let item = HintsOf {
+            function_index: self.function_index,
+            hints: self.hints.as_slice(),
+        };
+        item.encode(sink)
+    }
+}
+
 /// A section of branch hints, `metadata.code.branch_hint` (WebAssembly proposal, Branch Hinting).
 ///
 /// The section stands before the code section. Nothing checks that, nor the order of functions and offsets.

@@ -12,6 +12,7 @@ pub mod custom_list;
 pub mod known;
 pub mod linking;
 pub mod longer_contents;
+pub mod moved_hints;
 pub mod name_maps;
 pub mod names;
 pub mod producers;

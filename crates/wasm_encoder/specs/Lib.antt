@@ -51,6 +51,7 @@ pub use Rattle.wasm_sections.specs.SectionBytes
 pub use Rattle.wasm_sections.specs.WrittenSections
 pub use Rattle.wasm_sections.specs.ClosedEntries
 pub use Rattle.wasm_sections.specs.Prefixes
+pub use Rattle.wasm_sections.specs.SectionContents
 pub use Rattle.wasm_modules.specs.Judging as JudgedModules
 pub use Rattle.wasm_modules.specs.ModuleOrder
 pub use Rattle.wasm_modules.specs.IndexSpaces
@@ -81,6 +82,9 @@ pub use Rattle.wasm_custom_sections.specs.NameSections
 pub use Rattle.wasm_custom_sections.specs.WrittenNames
 pub use Rattle.wasm_custom_sections.specs.MappedNames
 pub use Rattle.wasm_custom_sections.specs.KnownSections
+pub use Rattle.wasm_custom_sections.specs.MovedOffsets
+pub use Rattle.wasm_custom_sections.specs.MovedFunctions
+pub use Rattle.wasm_custom_sections.specs.MovedHints
 pub use Rattle.wasm_sink.specs.Sink
 pub use Rattle.wasm_sink.specs.ListCalls
 pub mod BuiltModules

@@ -10,8 +10,8 @@
 //!   to a file or stream, and [`Encode`] single values. After an error nothing has changed.
 //! - **Readers.** [`read`] decodes the body of what its type parameter builds: `read::<WholeModule>`,
 //!   `read::<ExportSection>`, `read::<Instructions>`. It accepts every encoding; [`read_strict`] accepts only the minimal
-//!   one, and [`check`] does the same without making the value. [`ItemReader`] hands on one item after another.
-//!   [`Readable`] and [`Decode`] read types of your own.
+//!   one, and [`check`] does the same without making the value. [`ItemReader`] hands on one item after another,
+//!   [`read_contents`] those of a section. [`Readable`] and [`Decode`] read types of your own.
 //! - **Normalisers.** [`normalise`] writes the minimal encoding of its input into new memory, and [`rewrite`] into the
 //!   memory of its input. [`rewrite_whole_module`] does that for all sections of a module.
 //! - **Editing.** [`MapIndices`] copies values with the new indices of a [`Renumbering`], and [`Module::from_sections`]
@@ -179,6 +179,7 @@ pub use sections::FunctionHints;
 pub use sections::FunctionSection;
 pub use sections::GlobalSection;
 pub use sections::GlobalType;
+pub use sections::HintedCode;
 pub use sections::Import;
 pub use sections::ImportSection;
 pub use sections::IndirectNameMap;

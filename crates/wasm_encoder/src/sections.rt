@@ -29,6 +29,7 @@ pub use wasm_custom_sections::core_values::CoreDumpValue;
 pub use wasm_custom_sections::custom_list::{CustomItem, CustomList};
 pub use wasm_custom_sections::known::{KnownCustomSection, known_custom_section};
 pub use wasm_custom_sections::linking::{LinkingSection, LinkingSubsection};
+pub use wasm_custom_sections::moved_hints::HintedCode;
 pub use wasm_custom_sections::name_maps::{IndirectNameMap, IndirectNaming, NameMap, Naming};
 pub use wasm_custom_sections::names::{NameError, NameSection, NameSubsection};
 pub use wasm_custom_sections::producers::{Producer, Producers, ProducersField, ProducersSection};
@@ -47,8 +48,8 @@ pub use wasm_modules::modules::{
     normalise_whole_module, read_whole_module, read_whole_module_strict, rewrite_whole_module,
 };
 pub use wasm_modules::order::{ModuleError, check_order, find_order_error};
-use wasm_sections::custom::append_front;
 pub use wasm_sections::contents::{Contents, read_contents, read_contents_strict};
+use wasm_sections::custom::append_front;
 pub use wasm_sections::custom::{CustomSection, read_custom};
 pub use wasm_sections::data::{DataSection, DataSegment, DataSegmentMode};
 pub use wasm_sections::elements::{Element, ElementMode, ElementSection, Elements};

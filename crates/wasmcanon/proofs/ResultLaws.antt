@@ -15,11 +15,13 @@ use Rattle.wasm_code.specs.Modules.{IsModulePrefixOf}
 use Rattle.wasm_sections.specs.formats.ModuleSections.{KeepsMinimal, ShortestWholeModule, module_section, whole_module}
 use Rattle.wasm_sections.proofs.RawSections.{minimal_normal, normal_minimal}
 use Rattle.wasm_custom_sections.specs.LongerContents.{HasLongerContents, IsFirstLonger}
+use Rattle.wasm_custom_sections.specs.MovedHints.{IsCodeOf}
+use Rattle.wasm_custom_sections.specs.declared.moved_hints.HintedCode.{HintedCode}
 use Rattle.wasm_modules.specs.Selections.{IsChosen}
 use Rattle.wasm_modules.specs.declared.order.ModuleError.{ModuleError}
 use Rattle.wasm_modules.specs.ModuleOrder.{OfModule, IsWhyNot}
 use Rattle.wasm_modules.specs.ModuleOrder as order
-use Rattle.wasmcanon.specs.Run.{Accepts, HasContents, IsCanonicalForm, IsForm, IsLonger, IsReadFailure, Judges}
+use Rattle.wasmcanon.specs.Run.{Accepts, HasContents, HasHints, IsCanonicalForm, IsForm, IsFormWith, IsLonger, IsReadFailure, Judges, MovesHintsIf}
 use Rattle.wasmcanon.specs.declared.order.MisplacedSection.{MisplacedSection}
 use Rattle.wasmcanon.specs.declared.run.FormOptions.{FormOptions}
 use Rattle.wasmcanon.specs.declared.run.Verdict.{Verdict}
@@ -49,22 +51,40 @@ longer_judged names input bytes refusal form check = by names where
   by true = ((form.given.value, form.given.encoded), inl longer)
 
 -- a canonical module whose contents are longer
-pub longer_contents : (input : List ℕ) (refusal : Refusal) → HasLongerContents input → (EncodesSome ShortestWholeModule input → IsFirstLonger input refusal.at) → IsCanonicalForm input input → Judges true input (verdicts.Longer refusal)
-longer_contents input refusal longer first canonical = ((canonical.value, canonical.encoded), inr (canonical, (longer, first (normal_minimal input input canonical))))
+pub longer_contents : (names : Bool) (input : List ℕ) (refusal : Refusal) → names ≡ true → HasLongerContents input → (EncodesSome ShortestWholeModule input → IsFirstLonger input refusal.at) → IsCanonicalForm input input → Judges names input (verdicts.Longer refusal)
+longer_contents false input refusal is longer first canonical = absurd (true≢false (sym is))
+longer_contents true input refusal is longer first canonical = ((canonical.value, canonical.encoded), inr (canonical, longer, first (normal_minimal input input canonical)))
 
 -- ---- canonical forms
 
+-- the hints of a form of an input that is known
+pub has_hints : (moved : Bool) (code : Option HintedCode) (input encoding hinted : List ℕ) → IfSome code (λ c. IsCodeOf input c) → MovesHintsIf moved code encoding hinted → HasHints moved input encoding hinted
+has_hints false code input encoding hinted is moves = moves
+has_hints true None input encoding hinted is moves = absurd moves
+has_hints true (Some code) input encoding hinted is moves = record { code = code; is_code = is; moves = moves }
+
+code_known : (code : Option HintedCode) (input : List ℕ) → IfSome code (λ c. IfSome (Some input) (λ i. IsCodeOf i c)) → IfSome code (λ c. IsCodeOf input c)
+code_known None input is = tt
+code_known (Some code) input is = is
+
 -- the form of an input that is known
-pub is_form : (known : Option (List ℕ)) (options : FormOptions) (encoding part bytes : List ℕ) → IfSome known (λ input. IsCanonicalForm input encoding) → IsChosen options.sections encoding part → KeepsMinimal encoding part → HasContents options.names part bytes → KeepsMinimal part bytes → IfSome known (λ input. IsForm options input bytes)
-is_form None options encoding part bytes canonical chosen keeps contents still = tt
-is_form (Some input) options encoding part bytes canonical chosen keeps contents still = record {
+pub is_form : (known : Option (List ℕ)) (options : FormOptions) (moved : Bool) (code : Option HintedCode) (encoding hinted part bytes : List ℕ) → IfSome known (λ input. IsCanonicalForm input encoding) → IfSome code (λ c. IfSome known (λ input. IsCodeOf input c)) → MovesHintsIf moved code encoding hinted → KeepsMinimal encoding hinted
+    → IsChosen options.sections hinted part → KeepsMinimal hinted part → HasContents options.names part bytes → KeepsMinimal part bytes → IfSome known (λ input. IsFormWith moved options input bytes)
+is_form None options moved code encoding hinted part bytes canonical is moves still chosen keeps contents same = tt
+is_form (Some input) options moved code encoding hinted part bytes canonical is moves still chosen keeps contents same = record {
   encoding = encoding;
   canonical = canonical;
+  hinted = hinted;
+  hints = has_hints moved code input encoding hinted (code_known code input is) moves;
   part = part;
   chosen = chosen;
   contents = contents;
-  stays = minimal_normal bytes (still (keeps (normal_minimal input encoding canonical)));
+  stays = minimal_normal bytes (same (keeps (still (normal_minimal input encoding canonical))));
 }
+
+pub form_with : (known : Option (List ℕ)) (options : FormOptions) (moved : Bool) (bytes : List ℕ) → IfSome known (λ input. IsFormWith moved options input bytes) → IfSome known (λ input. IsForm options input bytes)
+form_with None options moved bytes form = tt
+form_with (Some input) options moved bytes form = record { moved = moved; form = form }
 
 -- ---- the place of a refusal
 

@@ -7,25 +7,27 @@ use Rattle.wasm_code.specs.formats.Sections.{SectionParts}
 use Rattle.wasm_codec.specs.Encoding.{IsShortestOrLonger}
 use Rattle.wasm_sections.specs.formats.ModuleSections.{whole_module}
 use Rattle.wasm_sections.proofs.ModuleSectionLaws.{whole_module_is_lawful}
-use Rattle.wasm_modules.specs.Offsets.{IsNameOf, IsOffsetName}
+use Rattle.wasm_modules.specs.Offsets.{IsNameOf}
 use Rattle.wasm_modules.specs.Selections.{IsChosen}
-use Rattle.wasmcanon.specs.Run.{FormIs, HasContents, IsCanonicalForm, IsForm}
+use Rattle.wasm_custom_sections.specs.MovedHints.{IsCodeOf}
+use Rattle.wasm_custom_sections.specs.declared.moved_hints.HintedCode.{HintedCode}
+use Rattle.wasmcanon.specs.Run.{FormIs, HasContents, IsCanonicalForm, IsForm, IsFormWith, MovesHintsIf}
 use Rattle.wasmcanon.specs.declared.run.FormOptions.{FormOptions}
-use Rattle.wasmcanon.specs.StaleSections.{AreOffsetNames, none, named, other, KeepsNoOffsets, NamesOffsets, NamesStale}
+use Rattle.wasmcanon.specs.StaleSections.{AreOffsetNames, IsStaleName, NamesAll, none, named, other, KeepsNoOffsets, NamesOffsets, NamesStale}
 
-pub more_named : {sections : List SectionParts} {names : List (String Global)} (section : SectionParts) (name : String Global) → IsNameOf section (string_bytes name) → IsOffsetName (string_bytes name) → AreOffsetNames sections names → AreOffsetNames (sections ++ section ∷ []) (names ++ name ∷ [])
+pub more_named : {moved : Bool} {sections : List SectionParts} {names : List (String Global)} (section : SectionParts) (name : String Global) → IsNameOf section (string_bytes name) → IsStaleName moved (string_bytes name) → AreOffsetNames moved sections names → AreOffsetNames moved (sections ++ section ∷ []) (names ++ name ∷ [])
 more_named section name is keeps none = named is keeps none
 more_named section name is keeps (named i k all) = named i k (more_named section name is keeps all)
 more_named section name is keeps (other n all) = other n (more_named section name is keeps all)
 
-pub more_other : {sections : List SectionParts} {names : List (String Global)} (section : SectionParts) → KeepsNoOffsets section → AreOffsetNames sections names → AreOffsetNames (sections ++ section ∷ []) names
+pub more_other : {moved : Bool} {sections : List SectionParts} {names : List (String Global)} (section : SectionParts) → KeepsNoOffsets moved section → AreOffsetNames moved sections names → AreOffsetNames moved (sections ++ section ∷ []) names
 more_other section keeps none = other keeps none
 more_other section keeps (named i k all) = named i k (more_other section keeps all)
 more_other section keeps (other n all) = other n (more_other section keeps all)
 
 -- a section has at most one name, so a name of another kind tells that it keeps no offsets
-pub keeps_none : (section : SectionParts) (name : List ℕ) → IsNameOf section name → ((one two : List ℕ) → IsNameOf section one → IsNameOf section two → one ≡ two) → (IsOffsetName name → ⊥) → KeepsNoOffsets section
-keeps_none section name is one not two found keeps = not (subst IsOffsetName (one two name found is) keeps)
+pub keeps_none : (moved : Bool) (section : SectionParts) (name : List ℕ) → IsNameOf section name → ((one two : List ℕ) → IsNameOf section one → IsNameOf section two → one ≡ two) → (IsStaleName moved name → ⊥) → KeepsNoOffsets moved section
+keeps_none moved section name is one not two found keeps = not (subst (IsStaleName moved) (one two name found is) keeps)
 
 pub if_none : {A : Type 0} (found : Option A) (P : Type 0) → P → IfNone found P
 if_none None P holds = holds
@@ -40,9 +42,14 @@ unmoved input form canonical same = by (whole_module_is_lawful.shortest.least in
   by (inl is) = canonical.is_shortest ∙ sym is
   by (inr shorter) = absurd (lt_irrefl (length input) (subst (λ (n : ℕ). n < length input) (sym (ap length canonical.is_shortest) ∙ same) shorter))
 
-pub known_unmoved : (known : Option (List ℕ)) (bytes form : List ℕ) → IfSome known (λ input. bytes ≡ input) → IsCanonicalForm bytes form → length form ≡ length bytes → IfSome known (λ input. form ≡ input)
-known_unmoved None bytes form read canonical same = tt
-known_unmoved (Some input) bytes form read canonical same = unmoved bytes form canonical same ∙ read
+pub known_unmoved : (known : Option (List ℕ)) (moved : Bool) (bytes form : List ℕ) → IfSome known (λ input. bytes ≡ input) → (moved ≡ false → form ≡ bytes) → moved ≡ false → IfSome known (λ input. form ≡ input)
+known_unmoved None moved bytes form read stays same = tt
+known_unmoved (Some input) moved bytes form read stays same = stays same ∙ read
+
+pub known_code : (known : Option (List ℕ)) (code : Option HintedCode) (bytes : List ℕ) → IfSome known (λ input. bytes ≡ input) → IfSome code (IsCodeOf bytes) → IfSome code (λ c. IfSome known (λ input. IsCodeOf input c))
+known_code known None bytes read is = tt
+known_code None (Some code) bytes read is = tt
+known_code (Some input) (Some code) bytes read is = subst (λ (b : List ℕ). IsCodeOf b code) read is
 
 -- the numbers are equal, so no byte has moved
 pub same_number : (a b : ℕ) → not (nat_eq a b) ≡ false → a ≡ b
@@ -51,19 +58,25 @@ same_number a b stays = by (nat_eq a b) refl stays where
   by true is kept = eqb-true a b is
   by false is moved = absurd (true≢false moved)
 
-pub names_of : (known : Option (List ℕ)) (options : FormOptions) (encoding part form bytes : List ℕ) (names : List (String Global)) (moved shorter : Bool) → bytes ≡ form → IfSome known (λ input. IsCanonicalForm input encoding)
-    → (moved ≡ false → IfSome known (λ input. encoding ≡ input)) → IsChosen options.sections encoding part → HasContents options.names part form → (shorter ≡ false → length form ≡ length part)
-    → NamesOffsets bytes names ⊎ ((names ≡ []) × ((moved ≡ false) × (shorter ≡ false))) → IfSome known (λ input. NamesStale options input form names)
-names_of None options encoding part form bytes names moved shorter same canonical stays chosen contents as_long told = tt
-names_of (Some input) options encoding part form bytes names moved shorter same canonical stays chosen contents as_long (inl all) = inl (subst (λ (b : List ℕ). NamesOffsets b names) same all)
-names_of (Some input) options encoding part form bytes names moved shorter same canonical stays chosen contents as_long (inr empty) =
-    let is = stays empty.1.0 in
+-- a form that hasn't moved keeps its hints
+unhinted : (moved : Bool) (code : Option HintedCode) (encoding hinted : List ℕ) → moved ≡ false → MovesHintsIf moved code encoding hinted → hinted ≡ encoding
+unhinted false code encoding hinted is moves = moves
+unhinted true code encoding hinted is moves = absurd (true≢false is)
+
+pub names_of : (known : Option (List ℕ)) (options : FormOptions) (hints : Bool) (code : Option HintedCode) (encoding hinted part form bytes : List ℕ) (names : List (String Global)) (moved shorter : Bool) → bytes ≡ form → IfSome known (λ input. IsCanonicalForm input encoding)
+    → (moved ≡ false → IfSome known (λ input. encoding ≡ input)) → MovesHintsIf hints code encoding hinted → (moved ≡ false → hints ≡ false) → IsChosen options.sections hinted part → HasContents options.names part form → (shorter ≡ false → length form ≡ length part) → IfSome known (λ input. IsFormWith hints options input form)
+    → NamesOffsets hints bytes names ⊎ ((names ≡ []) × ((moved ≡ false) × (shorter ≡ false))) → IfSome known (λ input. NamesStale options input form names)
+names_of None options hints code encoding hinted part form bytes names moved shorter same canonical stays moves unmoved chosen contents as_long is told = tt
+names_of (Some input) options hints code encoding hinted part form bytes names moved shorter same canonical stays moves unmoved chosen contents as_long is (inl all) = inl (record { moved = hints; is = is; all = subst (λ (b : List ℕ). NamesOffsets hints b names) same all })
+names_of (Some input) options hints code encoding hinted part form bytes names moved shorter same canonical stays moves unmoved chosen contents as_long is (inr empty) =
+    let at : encoding ≡ input = stays empty.1.0 in
+    let kept : hinted ≡ input = unhinted hints code encoding hinted (unmoved empty.1.0) moves ∙ at in
     inr (
       empty.0,
       record {
-        canonical = subst (IsCanonicalForm input) is canonical;
+        canonical = subst (IsCanonicalForm input) at canonical;
         part = part;
-        chosen = subst (λ (b : List ℕ). IsChosen options.sections b part) is chosen;
+        chosen = subst (λ (b : List ℕ). IsChosen options.sections b part) kept chosen;
         contents = contents;
         as_long = as_long empty.1.1;
       },

@@ -1,5 +1,5 @@
 -- The output of a run of `wasmcanon`, and its result.
-use Rattle.std.specs.Prelude.{◌≡◌, ◌⊎◌, ℕ, Bool, true, false, List, Option, Result, Ok, Err, OnOk}
+use Rattle.std.specs.Prelude.{◌≡◌, ◌⊎◌, ℕ, Bool, true, false, List, Option, Some, None, Result, Ok, Err, OnOk}
 use Rattle.std.specs.Io.KnownBytes.{Appends}
 use Rattle.wasm_codec.specs.Outcomes.{EncodesSome, IsNormalForm, IsLongestPrefix}
 use Rattle.wasm_codec.specs.Streams.{AppendsPrefix}
@@ -13,6 +13,8 @@ use Rattle.sha2.specs.Sha256.{sha256}
 use Rattle.wasm_modules.specs.Selections.{IsChosen}
 use Rattle.wasm_custom_sections.specs.LongerContents.{HasLongerContents, IsFirstLonger}
 use Rattle.wasm_custom_sections.specs.MinimalContents.{MinimisesContents}
+use Rattle.wasm_custom_sections.specs.MovedHints.{IsCodeOf, MovesHints}
+use Rattle.wasm_custom_sections.specs.declared.moved_hints.HintedCode.{HintedCode}
 use Rattle.wasm_modules.specs.ModuleOrder.{OfModule, IsWhyNot}
 use Rattle.wasm_modules.specs.ModuleOrder as order
 use Rattle.wasmcanon.specs.declared.run.FormOptions.{FormOptions}
@@ -38,15 +40,40 @@ abbrev pub HasContents : Bool → List ℕ → List ℕ → Type 0
 HasContents false canonical bytes = bytes ≡ canonical
 HasContents true canonical bytes = MinimisesContents canonical bytes
 
--- The bytes are the canonical form of the input with these options.
-pub record IsForm (options : FormOptions) (input bytes : List ℕ) : Type 0 where
+-- The bytes are this module with its branch hints moved with their instructions, which are those of the input's code.
+pub record MovesHintsOf (input encoding bytes : List ℕ) : Type 0 where
+  pub code : HintedCode
+  pub is_code : IsCodeOf input code
+  pub moves : MovesHints code encoding bytes
+
+-- The branch hints of the canonical form are moved with their instructions, or it stays.
+abbrev pub HasHints : Bool → List ℕ → List ℕ → List ℕ → Type 0
+HasHints false input encoding bytes = bytes ≡ encoding
+HasHints true input encoding bytes = MovesHintsOf input encoding bytes
+
+-- If the flag is set, there is code, and the bytes are the module with its hints moved with the code's instructions.
+-- Otherwise they are the module.
+abbrev pub MovesHintsIf : Bool → Option HintedCode → List ℕ → List ℕ → Type 0
+MovesHintsIf false code encoding bytes = bytes ≡ encoding
+MovesHintsIf true None encoding bytes = ⊥
+MovesHintsIf true (Some code) encoding bytes = MovesHints code encoding bytes
+
+-- The bytes are the canonical form of the input with these options. Its branch hints are moved if the flag is set.
+pub record IsFormWith (moved : Bool) (options : FormOptions) (input bytes : List ℕ) : Type 0 where
   pub encoding : List ℕ
   pub canonical : IsCanonicalForm input encoding
+  pub hinted : List ℕ
+  pub hints : HasHints moved input encoding hinted
   pub part : List ℕ
-  pub chosen : IsChosen options.sections encoding part
+  pub chosen : IsChosen options.sections hinted part
   pub contents : HasContents options.names part bytes
   -- The bytes are canonical themselves.
   pub stays : IsCanonicalForm bytes bytes
+
+-- The bytes are the canonical form of the input with these options.
+pub record IsForm (options : FormOptions) (input bytes : List ℕ) : Type 0 where
+  pub moved : Bool
+  pub form : IsFormWith moved options input bytes
 
 -- The writer's known contents grew by the canonical form of the input with these options.
 pub record AppendsForm (options : FormOptions) (input : List ℕ) (old new : Option (List ℕ)) : Type 0 where

@@ -1,6 +1,7 @@
 //! The actions on the modules that the command line names.
 use crate::differences::{diff_all, find_item, print_first};
 use crate::files::{canonicalise_file, check_file, hash_file, read_canonical_at};
+use crate::hints::with_hints;
 use crate::job::Job;
 use crate::json::{difference_value, digest_value, verdict_value};
 use crate::listings::list_modules;
@@ -231,7 +232,10 @@ fn canonical_form_at(
     results: &mut Results,
 ) -> Result<Option<Vec<u8>>, AllocError> {
     match read_canonical_at(rt, request, input) {
-        Ok(canonical) => Ok(Some(canonical.bytes)),
+        Ok(canonical) => {
+            let hinted = with_hints(rt.alloc(), canonical)?;
+            Ok(Some(hinted.bytes))
+        }
         Err(failure) => {
             results.fail(input, Location::Standard, &failure)?;
             Ok(None)

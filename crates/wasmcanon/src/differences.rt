@@ -1,13 +1,14 @@
 //! The action `--diff --all`, and what `--diff` prints of the first part that differs.
 use crate::actions::two_inputs;
 use crate::files::read_input_at;
+use crate::hints::with_hints;
 use crate::json::{difference_value, failure_members};
 use crate::results::Results;
-use crate::run::{Failure, accept};
+use crate::run::{Failure, accept, canonical_of};
 use canon_cli::held::HeldWriter;
 use canon_cli::request::{Location, Request};
 use canon_cli::text::InputName;
-use std::alloc::AllocError;
+use std::alloc::{AllocError, Global};
 use std::io::{BufWriter, Stdout, Write};
 use wasm_listing::diff::{Difference, find_difference};
 use wasm_listing::listing::{
@@ -117,13 +118,19 @@ fn accept_two<'m>(
     other: Vec<u8>,
 ) -> Result<(Vec<u8>, Vec<u8>), (Location<'m>, Failure)> {
     let [first, second] = two_inputs(request);
-    match accept(rt.alloc(), one, request.any_order) {
-        Ok(one) => match accept(rt.alloc(), other, request.any_order) {
+    match hinted_form(rt.alloc(), one, request.any_order) {
+        Ok(one) => match hinted_form(rt.alloc(), other, request.any_order) {
             Ok(other) => Ok((one, other)),
             Err(failure) => Err((second, failure)),
         },
         Err(failure) => Err((first, failure)),
     }
+}
+
+/// Rewrites a module to its canonical form, with its branch hints moved.
+fn hinted_form(alloc: Global, input: Vec<u8>, any_order: bool) -> Result<Vec<u8>, Failure> {
+    let canonical = canonical_of(alloc, input, any_order)?;
+    Ok(with_hints(alloc, canonical)?.bytes)
 }
 
 /// Writes the parts in which two modules differ, up to the first malformed part.

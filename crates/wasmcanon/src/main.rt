@@ -9,6 +9,7 @@ mod actions;
 mod contents;
 mod differences;
 mod files;
+mod hints;
 mod job;
 mod json;
 mod listings;

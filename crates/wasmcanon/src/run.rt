@@ -4,12 +4,14 @@ ghost use Rattle.std.specs.Io.KnownBytes.{IsAtEnd, Keeps};
 ghost use Rattle.wasm_sections.specs.formats.ModuleSections.{module_section};
 ghost use Rattle.wasm_modules.specs.Counting.{ShowsModule};
 ghost use Rattle.wasm_modules.specs.RefusalNumbers.{CountsParts};
+ghost use Rattle.wasm_custom_sections.specs.MovedHints.{IsCodeOf};
 ghost use Rattle.wasmcanon.specs.Objects.{IsObjectFile, IsNoObjectFile};
 ghost use Rattle.wasmcanon.specs.Run.{Accepts, FormIs, IsModule, IsCanonicalForm, AppendsBeginning, AppendsForm, IsForm, IsHash, IfObjectFile, IfPlaced, IfWriteFailed, NeverWrites, OnceAllIsRead, BeforeAnyWrite, IsReadFailure, Judges, outcome_of, status_of};
 ghost use Rattle.wasmcanon.specs.StaleSections.{NamesStale};
 ghost use Rattle.wasmcanon.specs.declared.run.Failure.TheVariants.{Memory};
 
 use crate::contents::{judge_contents, with_contents};
+use crate::hints::with_hints;
 use crate::objects::is_object_file;
 use crate::offsets::stale_names;
 use crate::order::{MisplacedSection, check_sections};
@@ -23,6 +25,7 @@ use wasm_code::decode::rewrite;
 use wasm_codec::reader::DecodeError;
 use wasm_codec::reader::refusal::Refusal;
 use wasm_codec::streams::write_all;
+use wasm_custom_sections::moved_hints::HintedCode;
 use wasm_modules::counting::{SectionWatcher, rewrite_watched};
 use wasm_modules::modules::{WholeModule, judge_whole_module};
 use wasm_modules::order::ModuleError;
@@ -82,6 +85,8 @@ pub struct Canonical {
     pub bytes: Vec<u8>,
     /// Whether bytes have moved: another encoding is longer.
     pub has_moved: bool,
+    /// The code of the module, if it has branch hints, as it was before.
+    pub code: Option<HintedCode>,
 }
 
 /// What is written of a canonical form.
@@ -104,7 +109,8 @@ pub enum Verdict {
 
 /// Reads a module, and writes its canonical form with these options. Notes which patterns match its custom sections.
 ///
-/// If bytes have moved, returns the names of the custom sections that keep offsets and are written. Fails with `Refused`
+/// Branch hints move with their instructions. If bytes have moved, returns the names of the custom sections that keep
+/// other offsets and are written. Fails with `Refused`
 /// if the input is malformed, and with `Disordered` if its sections are out of order or their counts disagree, unless any
 /// order is allowed. Fails with `ObjectFile` if the output would be an object file, unless `objects` is set: its
 /// relocations would be stale. Fails with `Memory` if memory runs out, and with `Read` or `Write` if a read or a write
@@ -119,7 +125,8 @@ pub fn canonicalise<R: Input, W: Write>(
     options: FormOptions<'_>,
     uses: &mut PatternUses<'_>,
 ) -> Result<Vec<String>, Failure>
-    // The names are those of all sections in the form that keep offsets, or there are none, since no byte has moved.
+    // The names are those of all sections in the form that keep offsets, but for those of branch hints that were moved. Or
+    // there are none, since no byte has moved.
     ensures stale { IfOk result (λ names. IfSome (R.remaining reader.old) (λ input.
         FormIs options.entry input (λ form. NamesStale options.entry input form names.items))) }
     // The canonical form of the input with these options was appended, and nothing else.
@@ -182,7 +189,7 @@ pub fn hash<R: Input>(
 #[derive(Drop)]
 struct Form {
     bytes: Vec<u8>,
-    /// If bytes have moved, the names of the custom sections that keep offsets.
+    /// If bytes have moved, the names of the custom sections whose offsets are stale.
     stale: Vec<String>,
 }
 
@@ -207,14 +214,17 @@ fn read_form<R: Input>(
 {
     let canonical = read_canonical(alloc, reader, any_order)?;
     uses.note_module(alloc, &canonical.bytes);
-    let chosen = choose_sections(canonical.bytes, options.sections);
+    let has_moved = canonical.has_moved;
+    let hinted = with_hints(alloc, canonical)?;
+    let chosen = choose_sections(hinted.bytes, options.sections);
     let len = chosen.len();
     let bytes = with_contents(alloc, chosen, options.names)?;
     let stale = stale_names(
         alloc,
         bytes.as_slice(),
-        canonical.has_moved,
+        has_moved,
         bytes.len() != len,
+        hinted.are_moved,
     )?;
     Ok(Form { bytes, stale })
 }
@@ -230,6 +240,8 @@ pub fn read_canonical<R: Input>(
 ) -> Result<Canonical, Failure>
     // The result is the canonical form of the input.
     ensures ok { IfOk result (λ form. IfSome (R.remaining reader.old) (λ input. IsCanonicalForm input form.bytes.items)) }
+    // The code is that of the input.
+    ensures code { IfOk result (λ form. IfSome form.code (λ code. IfSome (R.remaining reader.old) (λ input. IsCodeOf input code))) }
     // If no byte has moved, it is the input.
     ensures moved { IfOk result (λ form. form.has_moved ≡ false →
         IfSome (R.remaining reader.old) (λ input. form.bytes.items ≡ input)) }
@@ -244,10 +256,37 @@ pub fn read_canonical<R: Input>(
     ensures unwritten { NeverWrites result }
 {
     let input = read_all(alloc, reader)?;
+    let canonical = canonical_of(alloc, input, any_order)?;
+    Ok(canonical)
+}
+
+/// Rewrites a module to its canonical form, and notes what moves its branch hints.
+///
+/// Fails with `Refused`, `Disordered` and `Memory` as `canonicalise` does.
+pub fn canonical_of(alloc: Global, input: Vec<u8>, any_order: bool) -> Result<Canonical, Failure>
+    // The result is the canonical form of the input.
+    ensures ok { IfOk result (λ form. IsCanonicalForm input.items form.bytes.items) }
+    // The code is that of the input.
+    ensures code { IfOk result (λ form. IfSome form.code (IsCodeOf input.items)) }
+    // If no byte has moved, it is the input.
+    ensures moved { IfOk result (λ form. form.has_moved ≡ false → form.bytes.items ≡ input.items) }
+    // A refused input is malformed, and unless any order is allowed, the sections of an accepted one are in order.
+    ensures accepts { Accepts any_order input.items (outcome_of result) }
+    // The section and the item that it names are numbered by those before them.
+    ensures numbers { IfPlaced result (CountsParts module_section input.items) }
+    // The failure is neither `Write` nor `ObjectFile`.
+    ensures unwritten { NeverWrites result }
+{
+    // Rewriting takes the input, so the code that branch hints refer to is copied first.
+    let code = HintedCode::of_module(alloc, &input)?;
     let len = input.len();
     let bytes = accept(alloc, input, any_order)?;
     let has_moved = bytes.len() != len;
-    Ok(Canonical { bytes, has_moved })
+    Ok(Canonical {
+        bytes,
+        has_moved,
+        code,
+    })
 }
 
 /// Reads a module, and rewrites it to its canonical form. Shows each section to the watcher before and after.

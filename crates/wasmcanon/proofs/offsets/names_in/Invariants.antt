@@ -6,7 +6,7 @@ use Rattle.wasmcanon.proofs.offsets.names_in.Given as goal
 
 abbrev pub invariant-loop-cursor : goal.invariant-loop-cursor
 invariant-loop-cursor l = record {
-  searched : OfRawSections l.sections (λ sections. Searched (λ before. AreOffsetNames before l.names.items) sections l.cursor.left);
+  searched : OfRawSections l.sections (λ sections. Searched (λ before. AreOffsetNames l.hints_moved before l.names.items) sections l.cursor.left);
 }
 
 abbrev pub decreases-loop-cursor : goal.decreases-loop-cursor

@@ -1,0 +1,74 @@
+//! Branch hints that move with their instructions.
+
+use super::is;
+use std::alloc::Global;
+use std::test::Fail;
+use wasm_encoder::{HintedCode, WholeModule, rewrite};
+
+// a type, an imported function, two functions
+const SECTIONS: &str = "0061736D010000000104016000000207010161016200000303020000";
+
+const NAME: &str = "196D657461646174612E636F64652E6272616E63685F68696E74";
+// padded: a local, local.get 0, `if` at 9, end, local.get 0, `br_if 0` at 15, end; then an empty function
+const CODE: &str = "0A170212018180007F2080800004400B2080000D000B02000B";
+
+const MINIMAL: &str = "0A12020D01017F200004400B20000D000B02000B";
+
+/// A module with these contents of its section of hints, and this code section.
+fn module(alloc: Global, size: &str, hints: &str, code: &str) -> Result<Vec<u8>, Fail> {
+    let text = format!(in alloc; "{SECTIONS}00{size}{NAME}{hints}{code}")?;
+    Ok(hex::decode(alloc, text.as_str())?)
+}
+
+/// The minimal encoding of the module with these hints, with its hints moved.
+fn moved(alloc: Global, size: &str, hints: &str) -> Result<Option<Vec<u8>>, Fail> {
+    let module = module(alloc, size, hints, CODE)?;
+    let Some(code) = HintedCode::of_module(alloc, &module)? else {
+        return Err(Fail::from("no code"));
+    };
+    let minimal = rewrite::<WholeModule>(module)?;
+    Ok(code.move_hints(alloc, &minimal)?)
+}
+
+/// Checks that these hints can't be moved.
+fn stay(alloc: Global, size: &str, hints: &str) -> Result<(), Fail> {
+    match moved(alloc, size, hints)? {
+        None => Ok(()),
+        Some(_) => Err(Fail::from(hints)),
+    }
+}
+
+#[test]
+fn hints_move_with_their_instructions(rt: HostRuntime) -> Result<(), Fail> {
+    let alloc = rt.alloc();
+    let Some(moved) = moved(alloc, "23", "0101020901010F0100")? else {
+        return Err(Fail::from("not moved"));
+    };
+    let expected = format!(in alloc; "{SECTIONS}0023{NAME}0101020501010A0100{MINIMAL}")?;
+    is(alloc, moved.as_slice(), expected.as_str())
+}
+
+#[test]
+fn hints_that_stand_nowhere_stay(rt: HostRuntime) -> Result<(), Fail> {
+    let alloc = rt.alloc();
+    stay(alloc, "20", "0101010A0101")?; // inside `if`
+    stay(alloc, "20", "010101030101")?; // inside the locals
+    stay(alloc, "20", "010101120101")?; // at the end of the body
+    stay(alloc, "20", "0101017F0101")?; // behind it
+    stay(alloc, "20", "010001090101")?; // of the imported function
+    stay(alloc, "20", "010301090101")?; // of no function
+    stay(alloc, "23", "0101020F0101090100")?; // in descending order
+    stay(alloc, "20", "010101090102") // with a malformed value
+}
+
+#[test]
+fn a_module_without_hints(rt: HostRuntime) -> Result<(), Fail> {
+    let alloc = rt.alloc();
+    let text = format!(in alloc; "{SECTIONS}{CODE}")?;
+    let module = hex::decode(alloc, text.as_str())?;
+    if HintedCode::of_module(alloc, &module)?.is_none() {
+        Ok(())
+    } else {
+        Err(Fail::from("code"))
+    }
+}

@@ -1,0 +1,32 @@
+use Rattle.std.proofs.Common.{◌≡◌, ◌∙◌, List, [], get_or, subst, take}
+use Rattle.std.proofs.lemmas.List.{take_all}
+use Rattle.wasm_code.specs.declared.section.RawSection.{RawSection}
+use Rattle.wasm_code.specs.formats.Sections.{all_parts_of, parts_of}
+use Rattle.wasm_custom_sections.specs.MovedFunctions.{all_bodies}
+use Rattle.wasm_custom_sections.specs.MovedHints.{AppendsMoved, MovesSoFar}
+use Rattle.wasm_custom_sections.specs.declared.moved_hints.functions.BodyBytes.{BodyBytes}
+use Rattle.wasm_custom_sections.proofs.MovedModuleLaws.{moving_none, moving_on, stays_minimal}
+use Rattle.wasm_custom_sections.proofs.moved_hints.HintedCode.move_hints.Goals as goal
+
+pub loop-section-init : goal.loop-section-init
+loop-section-init c = moving_none c.args.self.now.imported_functions (all_bodies c.in-Ok-read_list_to_end.bodies.items) c.in_ok-moved.moved.items c.in_ok-moved.ensures.items
+
+pub loop-section-preserved : goal.loop-section-preserved
+loop-section-preserved c =
+    let imported = c.args.self.now.imported_functions in
+    let sections = c.deref-section-items.result.now in
+    let i = c.loop-section.section-index in
+    let d : RawSection = record { id = 0; body = record { ref_ptr = (0, 0); now = [] } } in
+    let old = c.loop-section.moved.items in
+    let new = c.append_moved.new.sink.items in
+    let one = subst (λ (bodies : List BodyBytes). AppendsMoved imported (all_bodies bodies) (parts_of (get_or sections i d)) old new) c.as_slice-in-loop-section.ensures.value (c.in_ok-append_moved.ensures.moved c.if-not-branch.false) in
+    moving_on imported (all_bodies c.in-Ok-read_list_to_end.bodies.items) sections i d old new c.loop-section-test.true c.loop-section.invariant one
+
+pub returns-clause-minimal : goal.returns-clause-minimal
+returns-clause-minimal c =
+    let imported = c.args.self.now.imported_functions in
+    let bodies = all_bodies c.in-Ok-read_list_to_end.bodies.items in
+    let sections = c.in-Ok.sections.items in
+    let all : take c.loop-section.section-index c.deref-section-items.result.now ≡ sections = take_all c.loop-section.section-index c.deref-section-items.result.now c.loop-section-test.false ∙ c.deref-section-items.ensures.value in
+    let so_far = subst (λ (l : List RawSection). MovesSoFar imported bodies (all_parts_of l) c.loop-section.moved.items) all c.loop-section.invariant in
+    stays_minimal imported bodies (all_parts_of sections) c.args.module.now c.loop-section.moved.items c.in-Ok.ensures.decodes.given so_far

@@ -1,0 +1,24 @@
+use Rattle.std.proofs.Common.{◌+◌, [], false, get_or, refl, subst, sym, take}
+use Rattle.wasm_custom_sections.specs.MovedOffsets.{Each, MovesHint, none}
+use Rattle.wasm_custom_sections.specs.declared.branch_hints.BranchHint.{BranchHint}
+use Rattle.wasm_custom_sections.proofs.MovedOffsetLaws.{each_more, hint_moved}
+use Rattle.wasm_custom_sections.proofs.moved_hints.offsets.moved_hints.Goals as goal
+
+pub loop-hint-init : goal.loop-hint-init
+loop-hint-init c = record {
+  front_is = rw c.in-Some.is at c.in_ok-locals.ensures.front;
+  moves = subst (Each (MovesHint c.args.body.now) []) (sym c.in_ok-moved.ensures.items) none;
+}
+
+pub loop-hint-preserved : goal.loop-hint-preserved
+loop-hint-preserved c =
+    let hints = c.args.hints.now in
+    let i = c.loop-hint.hint-index in
+    let d : BranchHint = record { branch_func_offset = 0; likely = false } in
+    let front = rw c.in-Some-2.is at c.in_ok-next.ensures.front in
+    let new : BranchHint = record { branch_func_offset = c.in-Ok.branch_func_offset; likely = (get_or hints i d).likely } in
+    let one = hint_moved c.args.body.now (get_or hints i d) new c.in-Some-2.next front (sym c.in-Ok.ensures.1) refl in
+    record {
+      front_is = front.front_is;
+      moves = subst (Each (MovesHint c.args.body.now) (take (i + 1) hints)) (sym c.in_ok-push.ensures.items) (each_more (MovesHint c.args.body.now) hints c.loop-hint.moved.items i d new c.loop-hint-test.true c.loop-hint.invariant.moves one);
+    }

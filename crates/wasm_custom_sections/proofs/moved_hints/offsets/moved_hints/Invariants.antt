@@ -1,0 +1,9 @@
+use Rattle.std.proofs.Common.{take}
+use Rattle.wasm_custom_sections.specs.MovedOffsets.{Each, IsFront, MovesHint}
+use Rattle.wasm_custom_sections.proofs.moved_hints.offsets.moved_hints.Given as goal
+
+abbrev pub invariant-loop-hint : goal.invariant-loop-hint
+invariant-loop-hint l = record {
+  front_is : IsFront l.body l.front;
+  moves : Each (MovesHint l.body) (take l.hint-index l.hints) l.moved.items;
+}

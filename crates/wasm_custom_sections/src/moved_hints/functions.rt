@@ -1,0 +1,105 @@
+//! Hints of functions, moved with the instructions in the functions' bodies.
+ghost use Rattle.std.proofs.lemmas.List.{map_push};
+ghost use Rattle.std.specs.Prelude.{ℕ, List, refl, IfOk, IfSome};
+ghost use Rattle.wasm_codec.specs.Lawful.{IsLawful};
+ghost use Rattle.wasm_codec.specs.Rewriter.{Rewrites};
+ghost use Rattle.wasm_codec.specs.formats.Bodies.{byte_list};
+ghost use Rattle.wasm_codec.specs.formats.Grammar.{TakesBytes};
+ghost use Rattle.wasm_custom_sections.specs.MovedFunctions.{IsBodyAt, MovesFunction, all_bodies, bytes_of_body};
+ghost use Rattle.wasm_custom_sections.specs.MovedOffsets.{Each};
+
+use crate::branch_hints::FunctionHints;
+use crate::moved_hints::offsets::moved_hints;
+use crate::sized::read_sized_bytes;
+use std::alloc::{AllocError, Global};
+use wasm_code::raw::RawBytes;
+use wasm_codec::reader::cursor::{Cursor, Fault};
+use wasm_codec::rewriter::Rewriter;
+use wasm_lists::readable::Readable;
+use wasm_lists::rewriting::rewrite_sized;
+
+/// The body of a function as bytes, without its size.
+#[derive(Clone, Copy)]
+pub struct BodyBytes<'a> {
+    /// Locals and instructions.
+    pub bytes: &'a [u8],
+}
+
+impl<'a> Readable<'a> for BodyBytes<'a> {
+    ghost Value = { List ℕ };
+
+    ghost view = { bytes_of_body };
+
+    ghost views = { all_bodies };
+
+    ghost views_each = { record { none = refl; more = λ bodies body. map_push bytes_of_body bodies body } };
+
+    ghost format = { byte_list };
+
+    #[inline(always)]
+    #[tactic(auto, using(crate::proofs::MovedFunctionLaws::byte_list_laws))]
+    fn is_lawful()
+        ensures lawful { IsLawful byte_list }
+        ensures some { TakesBytes byte_list.Encodes }
+    {}
+
+    fn read(_alloc: Global, cursor: &mut Cursor<'a>) -> Result<BodyBytes<'a>, Fault> {
+        let bytes = read_sized_bytes(cursor)?;
+        Ok(BodyBytes { bytes })
+    }
+
+    fn rewrite(rewriter: &mut Rewriter) -> Result<(), Fault>
+        ensures rewrites { Rewrites byte_list rewriter.old rewriter.new result }
+    {
+        rewrite_sized::<RawBytes>(rewriter)
+    }
+}
+
+/// Returns the hints for each function, moved. `None` means that they can't be. Fails if memory runs out.
+pub(crate) fn moved_functions(
+    alloc: Global,
+    functions: &[FunctionHints],
+    imported: usize,
+    bodies: &[BodyBytes<'_>],
+) -> Result<Option<Vec<FunctionHints>>, AllocError>
+    ensures moves { IfOk result (λ found. IfSome found (λ moved. Each (MovesFunction imported (all_bodies bodies.now)) functions.now moved.items)) }
+{
+    let mut moved = Vec::with_capacity(alloc, functions.len())?;
+    for function in functions {
+        let Some(next) = moved_function(alloc, function, imported, bodies)? else {
+            return Ok(None);
+        };
+        moved.push(next)?;
+    }
+    Ok(Some(moved))
+}
+
+/// Returns the hints for a function, moved. `None` means that they can't be. Fails if memory runs out.
+fn moved_function(
+    alloc: Global,
+    function: &FunctionHints,
+    imported: usize,
+    bodies: &[BodyBytes<'_>],
+) -> Result<Option<FunctionHints>, AllocError>
+    ensures moves { IfOk result (λ found. IfSome found (MovesFunction imported (all_bodies bodies.now) function.now)) }
+{
+    let Some(body) = body_at(bodies, imported, function.function_index) else {
+        return Ok(None);
+    };
+    let Some(hints) = moved_hints(alloc, body, function.hints.as_slice())? else {
+        return Ok(None);
+    };
+    Ok(Some(FunctionHints {
+        function_index: function.function_index,
+        hints,
+    }))
+}
+
+/// Returns the body of the function with this index.
+fn body_at<'a>(bodies: &[BodyBytes<'a>], imported: usize, index: u32) -> Option<&'a [u8]>
+    ensures body { IfSome result (λ body. IsBodyAt imported (all_bodies bodies.now) index body.now) }
+{
+    let number = (index as usize).checked_sub(imported)?;
+    let body = bodies.get(number)?;
+    Some(body.bytes)
+}

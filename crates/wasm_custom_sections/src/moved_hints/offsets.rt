@@ -1,0 +1,117 @@
+//! Offsets of instructions in the body of a function, and in the body's minimal encoding.
+ghost use Rattle.std.specs.Prelude.{ℕ, IfOk, IfSome};
+ghost use Rattle.wasm_types.specs.declared.types.value.ValType.{ValType};
+ghost use Rattle.wasm_code.specs.formats.CodeBodies.{local_group};
+ghost use Rattle.wasm_custom_sections.specs.MovedOffsets.{Each, IsFront, IsFrontUpTo, MovesHint};
+
+use crate::branch_hints::BranchHint;
+use std::alloc::{AllocError, Global};
+use wasm_codec::reader::ReadError;
+use wasm_codec::reader::cursor::Fault;
+use wasm_codec::rewriter::Rewriter;
+use wasm_instructions::normaliser::normalise_instructions;
+use wasm_lists::list::Items;
+use wasm_lists::rewriting::{Rewritable, rewrite_list};
+use wasm_types::types::take_val_type;
+
+/// The first bytes of a function's body: its locals, and some of its instructions.
+#[derive(Clone, Copy)]
+pub struct Front {
+    /// Number of these bytes.
+    pub len: usize,
+    /// Length in bytes of their minimal encoding.
+    pub minimal: usize,
+}
+
+/// Returns hints for the same instructions of a body, once the body is minimally encoded.
+///
+/// `None` means that the offsets aren't ascending, or that no instruction begins at one of them. Fails if memory runs
+/// out.
+pub(crate) fn moved_hints(
+    alloc: Global,
+    body: &[u8],
+    hints: &[BranchHint],
+) -> Result<Option<Items<BranchHint>>, AllocError>
+    ensures moves { IfOk result (λ found. IfSome found (λ moved. Each (MovesHint body.now) hints.now moved)) }
+{
+    let Some(locals) = locals_of(alloc, body)? else {
+        return Ok(None);
+    };
+    let mut front = locals;
+    let mut moved = Vec::with_capacity(alloc, hints.len())?;
+    for hint in hints {
+        let Some(next) = front_up_to(alloc, body, front, hint.branch_func_offset)? else {
+            return Ok(None);
+        };
+        let Ok(branch_func_offset) = u32::try_from(next.minimal) else {
+            return Ok(None);
+        };
+        moved.push(BranchHint {
+            branch_func_offset,
+            likely: hint.likely,
+        })?;
+        front = next;
+    }
+    Ok(Some(Items::from(moved)))
+}
+
+/// Returns the locals of a body. `None` means that they are malformed. Fails if memory runs out.
+fn locals_of(alloc: Global, body: &[u8]) -> Result<Option<Front>, AllocError>
+    ensures front { IfOk result (λ found. IfSome found (IsFront body.now)) }
+{
+    let mut copy = Vec::from_slice(alloc, body)?;
+    let mut rewriter = Rewriter::new(copy.as_mut_slice());
+    rewriter.are_bytes();
+    match rewrite_list::<LocalGroup>(&mut rewriter) {
+        Ok(()) => Ok(Some(Front {
+            len: body.len() - rewriter.len(),
+            minimal: rewriter.written_len(),
+        })),
+        Err(_) => Ok(None),
+    }
+}
+
+/// Returns the bytes up to `offset`, which go on after `front`.
+///
+/// `None` means that no instruction begins at `offset`, or that it isn't after `front`. Fails if memory runs out.
+fn front_up_to(
+    alloc: Global,
+    body: &[u8],
+    front: Front,
+    offset: u32,
+) -> Result<Option<Front>, AllocError>
+    requires { IsFront body.now front }
+    ensures front { IfOk result (λ found. IfSome found (IsFrontUpTo body.now offset)) }
+{
+    let len = offset as usize;
+    if len < front.len || len >= body.len() {
+        return Ok(None);
+    }
+    match normalise_instructions(alloc, &body[front.len..len]) {
+        Ok(instructions) => Ok(Some(Front {
+            len,
+            minimal: front.minimal + instructions.len(),
+        })),
+        Err(ReadError::Refused { .. }) => Ok(None),
+        Err(ReadError::Memory) => Err(AllocError),
+    }
+}
+
+/// A group of locals: their number and their type.
+struct LocalGroup;
+
+impl Rewritable for LocalGroup {
+    ghost Value = { ℕ × ValType };
+
+    ghost format = { local_group };
+
+    #[inline(always)]
+    fn is_lawful() {}
+
+    #[tactic(auto, using(std::proofs::Common::append_assoc))]
+    fn rewrite(rewriter: &mut Rewriter) -> Result<(), Fault> {
+        rewriter.u32()?;
+        take_val_type(rewriter)?;
+        Ok(())
+    }
+}
