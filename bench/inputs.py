@@ -105,6 +105,17 @@ def repeated(count, times, *instructions):
     return functions(count, b"".join(instructions) * times), count * (len(instructions) * times + 1), "instruction"
 
 
+def of(*texts):
+    """Instructions, in hexadecimal digits."""
+    return [bytes.fromhex(text) for text in texts]
+
+
+def functions_with_locals(count, *groups):
+    """Functions of these groups of locals and no instructions; and how many groups that is."""
+    body = number(len(groups)) + b"".join(groups) + END
+    return section(CODE, number(count) + (number(len(body)) + body) * count), count * len(groups), "group"
+
+
 def br_tables(count, labels):
     """Functions of one br_table each, with these labels and the default 0; and how many labels that is."""
     code = b"\x0E" + number(len(labels)) + b"".join(map(number, labels)) + b"\x00"
@@ -149,6 +160,28 @@ def kinds():
         "FB 16 70",  # ref.cast func
         "FC 0A 00 00",  # memory.copy 0 0
     ]))
+    yield "memory_indexes", *repeated(3400, 300, *of("28 42 01 08"))  # i32.load, memory 1
+    yield "padded_memory", *repeated(2000, 300, *of("28 82 80 80 80 00 88 80 80 80 00"))  # i32.load
+    yield "padded_offsets", *repeated(2000, 300, *of("28 02 88 80 80 80 00"))  # i32.load
+    yield "reference_locals", *functions_with_locals(50000, *of("01 70", "02 6F", "01 63 05", "01 7F", "03 64 6B") * 5)
+    yield "call_indirect", *repeated(4400, 300, *of("11 05 00"))
+    yield "typed", *repeated(1000, 200, *of(
+        "11 05 00",  # call_indirect 5 0
+        "D0 05",  # ref.null 5
+        "1C 01 7F",  # select (result i32)
+        "02 05",  # block 5
+        "FC 08 01 00",  # memory.init 1 0
+    ))
+    yield "vectors", *repeated(500, 200, *of(
+        "FD 0C" + "0123456789ABCDEF" * 2,  # v128.const
+        "FD 0D 00 01 02 03 04 05 06 07 08 09 0A 0B 0C 0D 0E 0F",  # i8x16.shuffle
+        "FD 15 03",  # i8x16.extract_lane_s 3
+        "FD 00 04 10",  # v128.load
+        "FD 54 00 08 01",  # v128.load8_lane
+        "FD AE 01",  # i32x4.add
+    ))
+    yield "atomics", *repeated(2000, 200, *of("FE 10 02 08", "FE 1E 02 00", "FE 48 02 10", "FE 03 00"))
+    yield "try_tables", *repeated(1400, 300, *of("1F 40 02 00 01 00 02 00", "0B"))
     length = 10000000
     segment = b"\x00" + I32_CONST_0 + END + number(length) + bytes(length)
     yield "data", functions(1, b"") + section(DATA, number(1) + segment), length, "byte"

@@ -14,3 +14,4 @@ pub mod ScannedCalls
 mod LittleEndianHalves
 pub mod NameLaws
 pub mod ScannedPrefixed
+pub mod ScannedParts

@@ -54,7 +54,7 @@ number_read (suc more) (b ∷ bytes) le =
 pub number_scanned : (count : ℕ) (bytes : List ℕ) → count ≤ length bytes → Scans (little_endian count) bytes (Some (scanned.Shortest count))
 number_scanned count bytes le = (le, number_read count bytes le)
 
-one_byte : (b : ℕ) (bytes : List ℕ) (s : Bool) → b < 0xfb → opcode.at (place s (b ∷ bytes)) ≡ Some (without_prefix b, place s bytes)
+pub one_byte : (b : ℕ) (bytes : List ℕ) (s : Bool) → b < 0xfb → opcode.at (place s (b ∷ bytes)) ≡ Some (without_prefix b, place s bytes)
 unfolding opcode byte_at
 one_byte b bytes s lt =
     rw (ne_eqb b 0xfb (λ e. omega (arith, e)), ne_eqb b 0xfc (λ e. omega (arith, e)), ne_eqb b 0xfd (λ e. omega (arith, e)), ne_eqb b 0xfe (λ e. omega (arith, e))) refl

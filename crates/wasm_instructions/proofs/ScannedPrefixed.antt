@@ -1,8 +1,10 @@
 -- Instructions with a prefix, `ref.null` and `br_table`, seen at once to be in their shortest encodings.
-use Rattle.std.proofs.Common.{◌≡◌, ℕ, zero, suc, ◌+◌, ◌-◌, ◌<◌, ◌≤◌, true, false, List, [], ◌∷◌, ◌++◌, length, get_or, take, drop, drop-drop, length-drop, Option, Some, None, IfSome, refl, sym, ap, subst, ◌∙◌, arith}
+use Rattle.std.proofs.Common.{◌≡◌, ℕ, zero, suc, ◌+◌, ◌-◌, ◌*◌, ◌%◌, ◌/◌, ◌^◌, ◌<◌, ◌≤◌, true, false, List, [], ◌∷◌, ◌++◌, length, get_or, take, drop, drop-drop, length-drop, Option, Some, None, IfSome, refl, sym, subst, ◌∙◌, arith}
 use Rattle.std.specs.List.{AllByRecursion}
 use Rattle.std.proofs.lemmas.List.{take_more}
-use Rattle.wasm_codec.specs.Places.{place, byte_at, times_at}
+use Rattle.std.proofs.lemmas.Bool.{lt-ltb, le-ltb}
+use Rattle.wasm_codec.specs.Places.{place, byte_at, times_at, u32_at}
+use Rattle.wasm_codec.specs.Leb128.{digits_at, digits_of, unsigned_leb128}
 use Rattle.wasm_codec.specs.Scanning.{Scans}
 use Rattle.wasm_codec.specs.declared.rewriter.scan.Scanned.TheVariants.{Shortest}
 use Rattle.wasm_codec.specs.formats.Combinators.{Format, ◌⊗◌, made, items, u32}
@@ -15,11 +17,11 @@ use Rattle.wasm_instructions.specs.declared.table.opcode.Opcode.{Opcode}
 use Rattle.wasm_instructions.specs.declared.table.opcode.Kind.{Kind}
 use Rattle.wasm_instructions.specs.declared.table.opcode.Kind.TheVariants as kinds
 use Rattle.wasm_instructions.specs.declared.table.call.Operands.TheVariants as operands
-use Rattle.wasm_instructions.specs.OperandParts.{index_part, two_indexes_part, br_table_part, mem_part, heap_part}
-use Rattle.wasm_instructions.specs.formats.Operands.{mem_arg}
+use Rattle.wasm_instructions.specs.OperandParts.{two_indexes_part, br_table_part}
 use Rattle.wasm_instructions.specs.formats.Instructions.{call, opcode, operands_format, instruction}
-use Rattle.wasm_instructions.specs.formats.Opcodes.{without_prefix, after_fb, after_fc, after_fd, after_fe, opcode_kind, ranges}
-use Rattle.wasm_instructions.proofs.ScannedCalls.{call_scanned, made_scanned}
+use Rattle.wasm_instructions.specs.formats.Opcodes.{without_prefix, after_fb, after_fc, after_fd, after_fe, opcode_kind}
+use Rattle.wasm_instructions.specs.ScannedOpcodes.{HasOpcode, IsKindAfter}
+use Rattle.wasm_instructions.proofs.ScannedCalls.{made_scanned, one_byte}
 
 -- ---- one after the other
 
@@ -30,73 +32,88 @@ pair_scanned F G bytes m n a b =
 
 -- ---- opcodes
 
--- after this byte, a number of one byte makes this opcode
-abbrev pub Makes : ℕ → (ℕ → Opcode) → Type 0
-Makes b make = (n : ℕ) (more : List ℕ) → n < 128 → opcode.at (place true (b ∷ n ∷ more)) ≡ Some (make n, place true more)
+-- a number of two digits
+two_read : (a b : ℕ) (more : List ℕ) → 128 ≤ a → a < 256 → 0 < b → b < 128 → u32.at (place true (a ∷ b ∷ more)) ≡ Some (a - 128 + 128 * b, place true more)
+unfolding u32_at unsigned_leb128 digits_at digits_of
+two_read a b more from to some small =
+    let n = a - 128 + 128 * b in
+    let value : a % 128 + 128 * (b % 128 + 128 * 0) ≡ n = omega (arith, from, to, small) in
+    rw (le-ltb a 128 from, lt-ltb b 128 small, value, lt-ltb n (2 ^ 32) (omega (arith, to, small)), le-ltb n 128 (omega (arith, some)), lt-ltb (n / 128) 128 (omega (arith, to, small))) refl
 
-pub makes_fb : Makes 0xfb after_fb
+-- the opcode of a number after a prefix byte
+after_is : (prefix : ℕ) (make : ℕ → Opcode) (number : ℕ) (kind : Kind) → ((bytes more : List ℕ) → u32.at (place true bytes) ≡ Some (number, place true more) → opcode.at (place true (prefix ∷ bytes)) ≡ Some (make number, place true more)) → opcode_kind (make number) ≡ Some kind → IsKindAfter prefix number kind
+after_is prefix make number kind reads is = record { op = make number; kind_is = is; reads = reads }
+
+fb_reads : (number : ℕ) (bytes more : List ℕ) → u32.at (place true bytes) ≡ Some (number, place true more) → opcode.at (place true (0xfb ∷ bytes)) ≡ Some (after_fb number, place true more)
 unfolding opcode byte_at
-makes_fb n more lt = rw (u32_one (place true (n ∷ more)) (place true more) n lt refl) refl
+fb_reads number bytes more e = rw e refl
 
-pub makes_fc : Makes 0xfc after_fc
+fc_reads : (number : ℕ) (bytes more : List ℕ) → u32.at (place true bytes) ≡ Some (number, place true more) → opcode.at (place true (0xfc ∷ bytes)) ≡ Some (after_fc number, place true more)
 unfolding opcode byte_at
-makes_fc n more lt = rw (u32_one (place true (n ∷ more)) (place true more) n lt refl) refl
+fc_reads number bytes more e = rw e refl
 
-pub makes_fd : Makes 0xfd after_fd
+fd_reads : (number : ℕ) (bytes more : List ℕ) → u32.at (place true bytes) ≡ Some (number, place true more) → opcode.at (place true (0xfd ∷ bytes)) ≡ Some (after_fd number, place true more)
 unfolding opcode byte_at
-makes_fd n more lt = rw (u32_one (place true (n ∷ more)) (place true more) n lt refl) refl
+fd_reads number bytes more e = rw e refl
 
-pub makes_fe : Makes 0xfe after_fe
+fe_reads : (number : ℕ) (bytes more : List ℕ) → u32.at (place true bytes) ≡ Some (number, place true more) → opcode.at (place true (0xfe ∷ bytes)) ≡ Some (after_fe number, place true more)
 unfolding opcode byte_at
-makes_fe n more lt = rw (u32_one (place true (n ∷ more)) (place true more) n lt refl) refl
+fe_reads number bytes more e = rw e refl
 
-pub prefixed : (b : ℕ) (make : ℕ → Opcode) (bytes : List ℕ) (n : ℕ) → Makes b make → 2 ≤ length bytes → get_or bytes 0 0 ≡ b → get_or bytes 1 0 ≡ n → n < 128 → opcode.at (place true bytes) ≡ Some (make n, place true (drop 2 bytes))
-prefixed b make [] n makes some first second lt = absurd (omega (arith, some))
-prefixed b make (a ∷ []) n makes some first second lt = absurd (omega (arith, some))
-prefixed b make (a ∷ c ∷ bytes) n makes some first second lt = rw (first, second) (makes n bytes lt)
+-- the same for the kind that the table gives
+if_kind : (prefix number : ℕ) (op : Opcode) (r : Option Kind) → r ≡ opcode_kind op → ((k : Kind) → opcode_kind op ≡ Some k → IsKindAfter prefix number k) → IfSome r (IsKindAfter prefix number)
+if_kind prefix number op None e after = tt
+if_kind prefix number op (Some k) e after = after k (sym e)
 
-pub prefixed_scanned : (bytes : List ℕ) (op : Opcode) (k : Kind) (n : ℕ) → 2 ≤ length bytes → opcode.at (place true bytes) ≡ Some (op, place true (drop 2 bytes)) → opcode_kind op ≡ Some k → Scans (operands_format k) (drop 2 bytes) (Some (Shortest n)) → Scans instruction bytes (Some (Shortest (2 + n)))
+pub fb_kind : (number : ℕ) (r : Option Kind) → r ≡ opcode_kind (after_fb number) → IfSome r (IsKindAfter 0xfb number)
+fb_kind number r e = if_kind 0xfb number (after_fb number) r e (λ k is. after_is 0xfb after_fb number k (fb_reads number) is)
+
+pub fc_kind : (number : ℕ) (r : Option Kind) → r ≡ opcode_kind (after_fc number) → IfSome r (IsKindAfter 0xfc number)
+fc_kind number r e = if_kind 0xfc number (after_fc number) r e (λ k is. after_is 0xfc after_fc number k (fc_reads number) is)
+
+pub fd_kind : (number : ℕ) (r : Option Kind) → r ≡ opcode_kind (after_fd number) → IfSome r (IsKindAfter 0xfd number)
+fd_kind number r e = if_kind 0xfd number (after_fd number) r e (λ k is. after_is 0xfd after_fd number k (fd_reads number) is)
+
+pub fe_kind : (number : ℕ) (r : Option Kind) → r ≡ opcode_kind (after_fe number) → IfSome r (IsKindAfter 0xfe number)
+fe_kind number r e = if_kind 0xfe number (after_fe number) r e (λ k is. after_is 0xfe after_fe number k (fe_reads number) is)
+
+pub plain_opcode : (bytes : List ℕ) (k : Kind) → 0 < length bytes → get_or bytes 0 0 < 0xfb → opcode_kind (without_prefix (get_or bytes 0 0)) ≡ Some k → HasOpcode bytes k 1
+plain_opcode [] k some lt is = absurd (omega (arith, some))
+plain_opcode (b ∷ bytes) k some lt is = record { op = without_prefix b; within = omega arith; reads = one_byte b bytes true lt; kind_is = is }
+
+pub one_digit_opcode : (bytes : List ℕ) (k : Kind) → 1 < length bytes → get_or bytes 1 0 < 128 → IsKindAfter (get_or bytes 0 0) (get_or bytes 1 0) k → HasOpcode bytes k 2
+one_digit_opcode [] k some lt is = absurd (omega (arith, some))
+one_digit_opcode (a ∷ []) k some lt is = absurd (omega (arith, some))
+one_digit_opcode (a ∷ n ∷ bytes) k some lt is = record {
+  op = is.op;
+  within = omega arith;
+  reads = is.reads (n ∷ bytes) bytes (u32_one (place true (n ∷ bytes)) (place true bytes) n lt refl);
+  kind_is = is.kind_is;
+}
+
+pub two_digit_opcode : (bytes : List ℕ) (k : Kind) (number : ℕ) → 2 < length bytes → 128 ≤ get_or bytes 1 0 → get_or bytes 1 0 < 256 → 0 < get_or bytes 2 0 → get_or bytes 2 0 < 128 → number ≡ get_or bytes 1 0 - 128 + 128 * get_or bytes 2 0 → IsKindAfter (get_or bytes 0 0) number k → HasOpcode bytes k 3
+two_digit_opcode [] k number some from to high small e is = absurd (omega (arith, some))
+two_digit_opcode (a ∷ []) k number some from to high small e is = absurd (omega (arith, some))
+two_digit_opcode (a ∷ m ∷ []) k number some from to high small e is = absurd (omega (arith, some))
+two_digit_opcode (a ∷ m ∷ n ∷ bytes) k number some from to high small e is = record {
+  op = is.op;
+  within = omega arith;
+  reads = is.reads (m ∷ n ∷ bytes) bytes (rw e (two_read m n bytes from to high small));
+  kind_is = is.kind_is;
+}
+
+pub opcode_scanned : (bytes : List ℕ) (k : Kind) (size n : ℕ) → HasOpcode bytes k size → Scans (operands_format k) (drop size bytes) (Some (Shortest n)) → Scans instruction bytes (Some (Shortest (size + n)))
 unfolding instruction
-prefixed_scanned bytes op k n some e is r =
-    let left : drop n (drop 2 bytes) ≡ drop (2 + n) bytes = drop-drop n 2 bytes in
-    (omega (arith, some, r.0, length-drop 2 bytes), (call op r.1.0, rw (e, is, r.1.1, left) refl))
-
-pub heap_scanned : (bytes : List ℕ) (n : ℕ) → Scans heap_type bytes (Some (Shortest n)) → Scans (operands_format kinds.Heap) bytes (Some (Shortest n))
-unfolding operands_format
-heap_scanned bytes n r = made_scanned operands.Heap heap_part heap_type (λ a. refl) bytes (Some (Shortest n)) r
-
-null_kind : opcode_kind (without_prefix 0xd0) ≡ Some kinds.Heap
-unfolding ranges
-null_kind = refl
-
-table_kind : opcode_kind (without_prefix 0x0e) ≡ Some kinds.BrTable
-unfolding ranges
-table_kind = refl
-
-pub null_scanned : (bytes : List ℕ) (n : ℕ) → 0 < length bytes → get_or bytes 0 0 ≡ 0xd0 → Scans heap_type (drop 1 bytes) (Some (Shortest n)) → Scans instruction bytes (Some (Shortest (1 + n)))
-null_scanned bytes n some is r = call_scanned bytes kinds.Heap (Shortest n) some (ap (λ (b : ℕ). opcode_kind (without_prefix b)) is ∙ null_kind) (heap_scanned (drop 1 bytes) n r)
-
-pub table_scanned : (bytes : List ℕ) (n : ℕ) → 0 < length bytes → get_or bytes 0 0 ≡ 0x0e → Scans (operands_format kinds.BrTable) (drop 1 bytes) (Some (Shortest n)) → Scans instruction bytes (Some (Shortest (1 + n)))
-table_scanned bytes n some is r = call_scanned bytes kinds.BrTable (Shortest n) some (ap (λ (b : ℕ). opcode_kind (without_prefix b)) is ∙ table_kind) r
+opcode_scanned bytes k size n has r =
+    let left : drop n (drop size bytes) ≡ drop (size + n) bytes = drop-drop n size bytes in
+    (omega (arith, has.within, r.0, length-drop size bytes), (call has.op r.1.0, rw (has.reads, has.kind_is, r.1.1, left) refl))
 
 -- ---- operands
 
 -- the operands of a kind, if their one part is found
-found_made : {A B : Type 0} (make : A → B) (parts : B → Option A) (F : Format A) → ((a : A) → parts (make a) ≡ Some a) → (bytes : List ℕ) (r : Option ℕ) → IfSome r (λ n. Scans F bytes (Some (Shortest n))) → IfSome r (λ n. Scans (made make parts F) bytes (Some (Shortest n)))
+pub found_made : {A B : Type 0} (make : A → B) (parts : B → Option A) (F : Format A) → ((a : A) → parts (make a) ≡ Some a) → (bytes : List ℕ) (r : Option ℕ) → IfSome r (λ n. Scans F bytes (Some (Shortest n))) → IfSome r (λ n. Scans (made make parts F) bytes (Some (Shortest n)))
 found_made make parts F back bytes None h = h
 found_made make parts F back bytes (Some n) h = made_scanned make parts F back bytes (Some (Shortest n)) h
-
-pub index_found : (bytes : List ℕ) (r : Option ℕ) → IfSome r (λ n. Scans u32 bytes (Some (Shortest n))) → IfSome r (λ n. Scans (operands_format kinds.Index) bytes (Some (Shortest n)))
-unfolding operands_format
-index_found bytes r h = found_made operands.Index index_part u32 (λ a. refl) bytes r h
-
-pub heap_found : (bytes : List ℕ) (r : Option ℕ) → IfSome r (λ n. Scans heap_type bytes (Some (Shortest n))) → IfSome r (λ n. Scans (operands_format kinds.Heap) bytes (Some (Shortest n)))
-unfolding operands_format
-heap_found bytes r h = found_made operands.Heap heap_part heap_type (λ a. refl) bytes r h
-
-pub memory_scanned : (bytes : List ℕ) (n : ℕ) → Scans mem_arg bytes (Some (Shortest n)) → Scans (operands_format kinds.Mem) bytes (Some (Shortest n))
-unfolding operands_format
-memory_scanned bytes n r = made_scanned operands.Mem mem_part mem_arg (λ a. refl) bytes (Some (Shortest n)) r
 
 pub two_scanned : (bytes : List ℕ) (m n : ℕ) → Scans u32 bytes (Some (Shortest m)) → Scans u32 (drop m bytes) (Some (Shortest n)) → Scans (operands_format kinds.TwoIndexes) bytes (Some (Shortest (m + n)))
 unfolding operands_format

@@ -1,11 +1,15 @@
--- The opcodes of one byte that are scanned with their operands.
-use Rattle.std.specs.Prelude.{◌≡◌, ℕ, zero, suc, ◌+◌, List, [], ◌∷◌, Option, Some}
+-- The opcodes of one byte that are scanned with their operands, and opcodes that are scanned by themselves.
+use Rattle.std.specs.Prelude.{◌≡◌, ℕ, zero, suc, ◌+◌, ◌≤◌, true, List, [], ◌∷◌, drop, length, Option, Some}
+use Rattle.wasm_codec.specs.Places.{place}
+use Rattle.wasm_codec.specs.formats.Combinators.{u32}
 use Rattle.wasm_instructions.specs.declared.table.opcode.Prefix.TheVariants as prefixes
 use Rattle.wasm_instructions.specs.declared.table.opcode.Kind.{Kind}
 use Rattle.wasm_instructions.specs.declared.table.opcode.Kind.TheVariants as kinds
 use Rattle.wasm_instructions.specs.declared.normaliser.scan.opcodes.ScannedKind.{ScannedKind}
 use Rattle.wasm_instructions.specs.declared.normaliser.scan.opcodes.ScannedKind.TheVariants as scanned
-use Rattle.wasm_instructions.specs.formats.Opcodes.{Range, ranges, kind_among}
+use Rattle.wasm_instructions.specs.declared.table.opcode.Opcode.{Opcode}
+use Rattle.wasm_instructions.specs.formats.Instructions.{opcode}
+use Rattle.wasm_instructions.specs.formats.Opcodes.{Range, ranges, kind_among, opcode_kind}
 
 -- How the operands of this kind are scanned; `No` if they aren't.
 abbrev pub scanned_of : Option Kind → ScannedKind
@@ -27,3 +31,16 @@ scanned_from rs first (suc more) = scanned_of (kind_among rs first) ∷ scanned_
 -- The table tells of each byte how the operands after it are scanned.
 abbrev pub IsScanTable : List ScannedKind → Type 0
 IsScanTable places = places ≡ scanned_from (ranges prefixes.None) 0 256
+
+-- The bytes begin with a minimally encoded opcode of this many bytes, whose operands are of this kind.
+pub record HasOpcode (bytes : List ℕ) (kind : Kind) (size : ℕ) : Type 0 where
+  pub op : Opcode
+  pub within : size ≤ length bytes
+  pub reads : opcode.at (place true bytes) ≡ Some (op, place true (drop size bytes))
+  pub kind_is : opcode_kind op ≡ Some kind
+
+-- The byte is a prefix, and the operands of the opcode of this number after it are of this kind.
+pub record IsKindAfter (prefix number : ℕ) (kind : Kind) : Type 0 where
+  pub op : Opcode
+  pub kind_is : opcode_kind op ≡ Some kind
+  pub reads : (bytes more : List ℕ) → u32.at (place true bytes) ≡ Some (number, place true more) → opcode.at (place true (prefix ∷ bytes)) ≡ Some (op, place true more)

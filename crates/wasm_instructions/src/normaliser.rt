@@ -13,6 +13,7 @@ use crate::normaliser::operands::rewrite_operands;
 use crate::normaliser::scan::{scan_call, scan_frequent_call, scan_rare_call};
 use crate::reader::take_opcode;
 use crate::table::Call;
+pub use scan::scan_val_type;
 use std::alloc::Global;
 use wasm_codec::reader::cursor::Fault;
 use wasm_codec::reader::malformed::Malformed;

@@ -1,8 +1,9 @@
 //! The normaliser of code section bodies (Core 3.0, Code Section).
-ghost use Rattle.std.specs.Prelude.{◌≡◌, ℕ, List, IfErr, length};
+ghost use Rattle.std.specs.Prelude.{◌≡◌, ℕ, List, Some, IfErr, IfSome, length};
 ghost use Rattle.wasm_codec.specs.Places.{Reads};
 ghost use Rattle.wasm_codec.specs.Rewriter.{Rewrites};
 ghost use Rattle.wasm_codec.specs.Scanning.{Scans};
+ghost use Rattle.wasm_codec.specs.declared.rewriter.scan.Scanned.TheVariants.{Shortest};
 ghost use Rattle.wasm_codec.specs.formats.Combinators.{items};
 ghost use Rattle.wasm_codec.specs.Outcomes.{IsMalformed, LiesIn, as_decoded, as_read};
 ghost use Rattle.wasm_types.specs.declared.types.value.ValType.{ValType};
@@ -16,7 +17,8 @@ use std::alloc::Global;
 use wasm_codec::reader::cursor::{Cursor, Fault};
 use wasm_codec::reader::refusal::Refusal;
 use wasm_codec::reader::{ReadError, without_memory, without_reason};
-use wasm_codec::rewriter::{Part, Rewriter, Scanned};
+use wasm_codec::rewriter::{Part, Rewriter, Scanned, scan_u32};
+use wasm_instructions::normaliser::scan_val_type;
 use wasm_instructions::table::Call;
 use wasm_lists::rewriting::{
     Rewritable, RewritableBody, begins_run, rewrite_list, rewrite_list_to_end, rewrite_sized,
@@ -202,6 +204,11 @@ impl Rewritable for LocalGroup {
 
     #[tactic(auto, using(std::proofs::Common::append_assoc))]
     fn rewrite(rewriter: &mut Rewriter) -> Result<(), Fault> {
+        rewriter.are_bytes();
+        if let Some(count) = scan_local_group(rewriter.left()) {
+            rewriter.rewrite_scanned(Scanned::Shortest(count));
+            return Ok(());
+        }
         let start = rewriter.start();
         rewriter.u32()?;
         rewriter.end_part(&start, Part::Number);
@@ -209,6 +216,19 @@ impl Rewritable for LocalGroup {
         rewriter.end_part(&start, Part::LocalGroup);
         Ok(())
     }
+}
+
+/// Returns the length in bytes of the group of locals that the bytes begin with. Returns `None` unless it is minimally
+/// encoded.
+#[inline(always)]
+fn scan_local_group(bytes: &[u8]) -> Option<usize>
+    ensures { IfSome result (λ count. Scans local_group bytes.now (Some (Shortest count))) }
+{
+    let Some(Scanned::Shortest(count)) = scan_u32(bytes) else {
+        return None;
+    };
+    let ty = scan_val_type(&bytes[count..])?;
+    Some(count + ty)
 }
 
 /// Reads a group of locals: their number and their type.

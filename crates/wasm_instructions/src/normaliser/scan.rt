@@ -8,10 +8,12 @@ ghost use Rattle.wasm_instructions.specs.formats.Instructions.{operands_format, 
 ghost use Rattle.wasm_instructions.specs.formats.Operands.{block_type, mem_arg};
 
 mod opcodes;
+mod parts;
 mod prefixed;
 
 use crate::normaliser::scan::opcodes::{SCANNED, scanned_kind};
 use crate::table::Kind;
+pub use parts::scan_val_type;
 pub(crate) use prefixed::scan_rare_call;
 use wasm_codec::rewriter::{Scanned, scan_s32, scan_s64, scan_short_u32, scan_u32, scan_u64};
 
