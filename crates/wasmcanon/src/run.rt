@@ -110,9 +110,10 @@ pub enum Verdict {
 /// Reads a module, and writes its canonical form with these options. Notes which patterns match its custom sections.
 ///
 /// Branch hints move with their instructions. If bytes have moved, returns the names of the custom sections that keep
-/// other offsets and are written. Fails with `Refused`
-/// if the input is malformed, and with `Disordered` if its sections are out of order or their counts disagree, unless any
-/// order is allowed. Fails with `ObjectFile` if the output would be an object file, unless `objects` is set: its
+/// other offsets and are written.
+///
+/// Fails with `Refused` if the input is malformed, and with `Disordered` if its sections are out of order or their counts
+/// disagree, unless any order is allowed. Fails with `ObjectFile` if the output would be an object file, unless `objects` is set: its
 /// relocations would be stale. Fails with `Memory` if memory runs out, and with `Read` or `Write` if a read or a write
 /// fails.
 #[tactic(auto, using(crate::proofs::ResultLaws::failed_to_write, crate::proofs::ResultLaws::not_written, crate::proofs::SectionSearches::form_is, crate::proofs::StaleLaws::form_names))]
