@@ -81,7 +81,7 @@ PLUMBING = re.compile(r"""
     | CanEncodeList | Chain
     | ListMinimalIf | EncodedItems | EncodesList | EncodesSome | Gains\w+ | GivesItems | GoesOnWith | GivesSome
     | HasAlignment | HasNo\w*List | If\w+ | IsAligned | IsAnswer | IsBodyOf | IsBytes | IsCanonicalForm
-    | IsCount | IsTypedSection | IsDelivery | IsEncoded | IsFull | IsJudgement | IsLawful | IsMemoryOrTooLong
+    | IsCount | IsTypedSection | IsDelivery | IsEncoded | IsFull | IsCheckedInPlace | IsLawful | IsMemoryOrTooLong
     | IsNameOf | IsReadError | IsReadFailure | IsRefusedList | IsSection | IsShort | IsShortEncoding
     | IsWithoutOffsets | LawfulItem | NormalForm | OfBoth | OfItems | OnceAllIsRead | OnlyTooLong | Reads | ReadsAll
     | Sees | TakesBytes | WritesGiven
@@ -156,7 +156,7 @@ def named_calls(calls, having):
 # Relations that say of one kind of thing what another says of all. They share its row.
 OF_ONE_KIND = {"IsSectionAfter": re.compile("IsTypeSection|IsCodeSection|IsSectionOfItems"),
                "Adds": re.compile(r"Adds(?!If|EachIf|Segment)\w+"), "AddsIf": re.compile("AddsSegment"),
-               "IsShortest": re.compile(r"IsWritten\w+"), "CallExceeds": re.compile(r"(?!Call)\w+Exceeds?")}
+               "IsMinimal": re.compile(r"IsWritten\w+"), "CallExceeds": re.compile(r"(?!Call)\w+Exceeds?")}
 PREFIX_FREE = re.compile(r"No encoding of .* is a proper prefix of another.*")
 
 

@@ -78,8 +78,9 @@ pub fn write_functions<W: Write + Drop>(
 
 fn functions(alloc: Global, number: u32) -> Result<CodeSection, EncodeError> {
     let mut code = CodeSection::new(alloc);
+    let mut function = Function::new(alloc, [])?;
     for index in 0..number {
-        let mut function = Function::new(alloc, [(1, ValType::I32)].iter().copied())?;
+        function.restart([(1, ValType::I32)])?;
         write_rounds(function.bytes_mut(), index)?;
         function.instructions().end()?;
         code.function(&function)?;
@@ -98,8 +99,9 @@ fn raw_functions(alloc: Global, number: u32) -> Result<CodeSection, EncodeError>
     let mut body = Vec::new(alloc);
     write_rounds(&mut body, 0)?;
     let mut code = CodeSection::new(alloc);
+    let mut function = Function::new(alloc, [])?;
     for _ in 0..number {
-        let mut function = Function::new(alloc, [(1, ValType::I32)].iter().copied())?;
+        function.restart([(1, ValType::I32)])?;
         function.raw(&body)?;
         function.instructions().end()?;
         code.function(&function)?;

@@ -44,6 +44,13 @@ pub fn function_of_locals(alloc: Global, locals: &[(u32, ValType)]) -> Result<Fu
     Function::new(alloc, locals.iter().copied())
 }
 
+/// Gives the function these locals and no instructions.
+pub fn restarted(function: &mut Function, locals: &[(u32, ValType)]) -> Result<(), EncodeError>
+    ensures { OnOk result (FunctionStandsFor function.new (body_of locals.now [])) }
+{
+    function.restart(locals.iter().copied())
+}
+
 /// Appends a `br_table` with these labels.
 pub fn branch_table(code: &mut Vec<u8>, labels: &[u32]) -> Result<(), EncodeError>
     ensures { OnOk result (code.new.items ≡

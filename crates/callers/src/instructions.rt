@@ -1,7 +1,7 @@
 //! Instructions that are written, alone and as the body of a function.
 ghost use Rattle.std.specs.Prelude.{◌≡◌, ◌++◌, ◌∷◌, [], ◌+◌, ◌≤◌, length, OnOk};
 ghost use Rattle.wasm_encoder.specs.Encoding.{byte_list_bytes};
-ghost use Rattle.wasm_encoder.specs.Sink.{IsShortestCall};
+ghost use Rattle.wasm_encoder.specs.Sink.{IsMinimalCall};
 ghost use Rattle.wasm_instructions.specs.formats.Instructions.{call};
 ghost use Rattle.wasm_instructions.specs.formats.Opcodes.{without_prefix};
 ghost use Rattle.wasm_instructions.specs.declared.table.call.Operands.TheVariants as operands;
@@ -34,7 +34,7 @@ pub fn load(code: &mut Vec<u8>, memarg: MemArg) -> Result<(), EncodeError>
 
 /// Appends a `local.get` in its minimal encoding. Every other encoding is longer.
 pub fn local(code: &mut Vec<u8>, index: u32) -> Result<(), EncodeError>
-    ensures { OnOk result (IsShortestCall (call (without_prefix 0x20) (operands.Index index))) }
+    ensures { OnOk result (IsMinimalCall (call (without_prefix 0x20) (operands.Index index))) }
 {
     InstructionSink::new(&mut *code).local_get(index)?;
     Ok(())

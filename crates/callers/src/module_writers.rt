@@ -6,7 +6,7 @@ ghost use Rattle.wasm_sections.specs.ListSections.{StandsForItems};
 ghost use Rattle.wasm_sections.specs.formats.EntryParts.{ExportParts, custom_parts};
 ghost use Rattle.wasm_sections.specs.formats.ModuleSectionParts.{ModuleSectionParts, custom, exports as holding_exports, functions as holding_functions};
 ghost use Rattle.wasm_sections.specs.formats.Entries.{export_entry};
-ghost use Rattle.wasm_sections.specs.formats.ModuleSections.{ShortestWholeModule};
+ghost use Rattle.wasm_sections.specs.formats.ModuleSections.{MinimalWholeModule};
 
 use std::alloc::Global;
 use std::io::Write;
@@ -48,7 +48,7 @@ pub fn list_of(
 ) -> Result<Vec<u8>, WriteError>
     ensures { (types : List ℕ) (entries : List ExportParts) → StandsForItems u32_format indexes.now types →
         StandsForItems export_entry names.now entries →
-        IfOk result (λ bytes. ShortestWholeModule bytes.items (holding_functions types ∷ holding_exports entries ∷ [])) }
+        IfOk result (λ bytes. MinimalWholeModule bytes.items (holding_functions types ∷ holding_exports entries ∷ [])) }
 {
     module_of(alloc, Vec::new(alloc), indexes, names)
 }

@@ -9,7 +9,7 @@ ghost use Rattle.wasm_sections.specs.ListSections.{StandsForItems};
 ghost use Rattle.wasm_sections.specs.formats.EntryParts.{ExportParts, custom_parts};
 ghost use Rattle.wasm_sections.specs.formats.ModuleSectionParts.{ModuleSectionParts, all_module_section_parts, custom, exports as holding_exports, functions as holding_functions, module_section_parts};
 ghost use Rattle.wasm_sections.specs.formats.Entries.{export_entry};
-ghost use Rattle.wasm_sections.specs.formats.ModuleSections.{ShortestWholeModule, module_section, whole_module};
+ghost use Rattle.wasm_sections.specs.formats.ModuleSections.{MinimalWholeModule, module_section, whole_module};
 
 use std::alloc::Global;
 use wasm_encoder::{
@@ -19,9 +19,9 @@ use wasm_encoder::{
 
 /// Appends a function section to a module.
 pub fn functions(built: &mut Module, section: &FunctionSection) -> Result<(), EncodeError>
-    ensures { (sections : List ModuleSectionParts) (indexes : List ℕ) → ShortestWholeModule built.old sections →
+    ensures { (sections : List ModuleSectionParts) (indexes : List ℕ) → MinimalWholeModule built.old sections →
         StandsForItems u32_format section.now indexes →
-        OnOk result (ShortestWholeModule built.new (sections ++ holding_functions indexes ∷ [])) }
+        OnOk result (MinimalWholeModule built.new (sections ++ holding_functions indexes ∷ [])) }
 {
     built.section(section)?;
     Ok(())
@@ -29,9 +29,9 @@ pub fn functions(built: &mut Module, section: &FunctionSection) -> Result<(), En
 
 /// Appends an export section to a module.
 pub fn exports(built: &mut Module, section: &ExportSection<'_>) -> Result<(), EncodeError>
-    ensures { (sections : List ModuleSectionParts) (entries : List ExportParts) → ShortestWholeModule built.old sections →
+    ensures { (sections : List ModuleSectionParts) (entries : List ExportParts) → MinimalWholeModule built.old sections →
         StandsForItems export_entry section.now entries →
-        OnOk result (ShortestWholeModule built.new (sections ++ holding_exports entries ∷ [])) }
+        OnOk result (MinimalWholeModule built.new (sections ++ holding_exports entries ∷ [])) }
 {
     built.section(section)?;
     Ok(())
@@ -39,8 +39,8 @@ pub fn exports(built: &mut Module, section: &ExportSection<'_>) -> Result<(), En
 
 /// Appends a custom section to a module.
 pub fn custom(built: &mut Module, section: &CustomSection<'_>) -> Result<(), EncodeError>
-    ensures { (sections : List ModuleSectionParts) → ShortestWholeModule built.old sections →
-        OnOk result (ShortestWholeModule built.new (sections ++ custom (custom_parts section.now) ∷ [])) }
+    ensures { (sections : List ModuleSectionParts) → MinimalWholeModule built.old sections →
+        OnOk result (MinimalWholeModule built.new (sections ++ custom (custom_parts section.now) ∷ [])) }
 {
     built.section(section)?;
     Ok(())
@@ -54,7 +54,7 @@ pub fn module_of(
 ) -> Result<Module, EncodeError>
     ensures { (types : List ℕ) (entries : List ExportParts) → StandsForItems u32_format indexes.now types →
         StandsForItems export_entry names.now entries →
-        IfOk result (λ m. ShortestWholeModule m (holding_functions types ∷ holding_exports entries ∷ [])) }
+        IfOk result (λ m. MinimalWholeModule m (holding_functions types ∷ holding_exports entries ∷ [])) }
 {
     let mut built = Module::new(alloc)?;
     functions(&mut built, indexes)?;
@@ -64,7 +64,7 @@ pub fn module_of(
 
 /// Reads the sections of such a module back.
 pub fn read_back<'a>(alloc: Global, module: &'a Module) -> Result<Vec<ModuleSection<'a>>, ReadError>
-    ensures { (sections : List ModuleSectionParts) → ShortestWholeModule module.now sections →
+    ensures { (sections : List ModuleSectionParts) → MinimalWholeModule module.now sections →
         IsOrMemory (λ given. all_module_section_parts given.items) sections result }
 {
     read_whole_module_strict(alloc, module.as_slice())
@@ -72,9 +72,9 @@ pub fn read_back<'a>(alloc: Global, module: &'a Module) -> Result<Vec<ModuleSect
 
 /// Appends a section that was read to a module.
 pub fn read_section(built: &mut Module, section: &ModuleSection<'_>) -> Result<(), EncodeError>
-    ensures { (sections : List ModuleSectionParts) (bytes : List ℕ) → ShortestWholeModule built.old sections →
+    ensures { (sections : List ModuleSectionParts) (bytes : List ℕ) → MinimalWholeModule built.old sections →
         module_section.Encodes bytes (module_section_parts section.now) →
-        OnOk result (ShortestWholeModule built.new (sections ++ module_section_parts section.now ∷ [])) }
+        OnOk result (MinimalWholeModule built.new (sections ++ module_section_parts section.now ∷ [])) }
 {
     built.section(section)?;
     Ok(())
@@ -86,7 +86,7 @@ pub fn written_back(alloc: Global, bytes: &[u8]) -> Result<Module, Error>
     ensures normal { IfOk result (λ m. IsNormalForm whole_module.Encodes whole_module.bytes bytes.now m) }
     // It encodes the sections that were read, and is their minimal encoding.
     ensures same { (sections : List ModuleSectionParts) → whole_module.Encodes bytes.now sections →
-        IfOk result (λ m. ShortestWholeModule m sections) }
+        IfOk result (λ m. MinimalWholeModule m sections) }
     // If the bytes are a module, it fails only if memory runs out.
     ensures memory { (sections : List ModuleSectionParts) → whole_module.Encodes bytes.now sections →
         IfErr result (λ e. (e ≡ errors.Read read_errors.Memory) ⊎ (e ≡ errors.Encode encode_errors.Memory)) }

@@ -7,7 +7,7 @@ ghost use Rattle.wasm_encoder.specs.Outcomes.{NeedsNoMemory};
 ghost use Rattle.wasm_encoder.specs.Bodies.{byte_list, bytes_to_end};
 ghost use Rattle.wasm_encoder.specs.Combinators.{items};
 ghost use Rattle.wasm_encoder.specs.DecodedPrefixes.{ArePrefixes};
-ghost use Rattle.wasm_encoder.specs.Decoding.{IsMinimal, ChecksAll, RewritesInPlace};
+ghost use Rattle.wasm_encoder.specs.Decoding.{TakesMinimal, ChecksAll, RewritesInPlace};
 ghost use Rattle.wasm_encoder.specs.Grammar.{TakesBytes};
 ghost use Rattle.wasm_encoder.specs.Lawful.{IsLawful, IsLawfulBody};
 ghost use Rattle.wasm_encoder.specs.Lists.{CountsItems, ListMinimalIf, IsListPrefix, IsListPrefixMinimalIf};
@@ -133,7 +133,7 @@ impl<'a> Decode<'a> for ExportSection<'a> {
 
     fn is_lawful()
         ensures lawful { IsLawfulBody (items export) }
-        ensures minimal { IsMinimal (items export) (ListMinimalIf true export) }
+        ensures minimal { TakesMinimal (items export) (ListMinimalIf true export) }
         ensures prefixes { ArePrefixes (items export).Encodes (IsListPrefix export.Encodes) }
         ensures minimal_prefixes { ArePrefixes (ListMinimalIf true export) (IsListPrefixMinimalIf true export) }
     {}

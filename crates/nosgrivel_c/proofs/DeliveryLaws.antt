@@ -125,9 +125,9 @@ module _ {V : Type 0} (F : Format V) (Minimal : Grammar V) (IsPrefix : List ℕ 
   pub judges_normal : (result : Result (Vec ℕ) ReadError) (before count status : ℕ) → Normalises F Minimal IsPrefix input result → IsJudged (λ encoding. encoding.items) result (length input) before count status
       → JudgesNormal F IsPrefix input before count status
   judges_normal (Ok encoding) before count status n (len, inl (is, whole)) = record {
-    normal = λ s. elim (n.shortest n.given.value n.given.encoded) [
-      | inl same ↦ record { value = n.given.value; encoded = n.given.encoded; is_shortest = same }
-      | inr longer ↦ absurd (omega (arith, longer, len, whole, subst (λ (t : List ℕ). length encoding.items ≡ length t) n.given.is_shortest refl))
+    normal = λ s. elim (n.minimal n.given.value n.given.encoded) [
+      | inl same ↦ record { value = n.given.value; encoded = n.given.encoded; is_minimal = same }
+      | inr longer ↦ absurd (omega (arith, longer, len, whole, subst (λ (t : List ℕ). length encoding.items ≡ length t) n.given.is_minimal refl))
     ];
     len = λ s. whole;
     shorter = λ s. absurd (omega (arith, is, s));

@@ -1,7 +1,7 @@
 //! Canonical forms of modules (Core 3.0, Modules). Every section is decoded.
 ghost use Rattle.wasm_code.specs.Modules.{IsModulePrefixOf};
 ghost use Rattle.wasm_codec.specs.formats.Combinators.{minimal_only};
-ghost use Rattle.wasm_sections.specs.formats.ModuleSections.{ShortestWholeModule, module_section, whole_module};
+ghost use Rattle.wasm_sections.specs.formats.ModuleSections.{MinimalWholeModule, module_section, whole_module};
 ghost use Rattle.nosgrivel_c.specs.Calls.{ChecksNormal, JudgesNormal, RewritesNormal, WritesInPlace, WritesNormal};
 
 use crate::delivery::{answer, deliver, judge, report};
@@ -65,7 +65,7 @@ pub extern "C" fn nosgrivel_judge_canonical(alloc: Global, input: &[u8], count: 
 /// The call copies the input.
 #[unsafe(no_mangle)]
 pub extern "C" fn nosgrivel_check_canonical(alloc: Global, input: &[u8], count: &mut usize) -> u32
-    ensures checks { ChecksNormal ShortestWholeModule (IsModulePrefixOf (minimal_only module_section)) input.now count.old count.new result }
+    ensures checks { ChecksNormal MinimalWholeModule (IsModulePrefixOf (minimal_only module_section)) input.now count.old count.new result }
 {
     answer(check_whole_module(alloc, input), input, count)
 }

@@ -1,5 +1,5 @@
 //! Bodies of code sections (Core 3.0, Code Section).
-ghost use Rattle.wasm_code.specs.formats.CodeBodies.{code_section_body, IsCodeSectionBodyPrefix, ShortestCodeSectionBody, IsShortestCodeSectionBodyPrefix};
+ghost use Rattle.wasm_code.specs.formats.CodeBodies.{code_section_body, IsCodeSectionBodyPrefix, MinimalCodeSectionBody, IsMinimalCodeSectionBodyPrefix};
 ghost use Rattle.nosgrivel_c.specs.Calls.{ChecksNormal, JudgesNormal, RewritesNormal, WritesInPlace, WritesNormal};
 
 use crate::delivery::{answer, deliver, judge, report};
@@ -68,7 +68,7 @@ pub extern "C" fn nosgrivel_check_code_section(
     input: &[u8],
     count: &mut usize,
 ) -> u32
-    ensures checks { ChecksNormal ShortestCodeSectionBody IsShortestCodeSectionBodyPrefix input.now count.old count.new result }
+    ensures checks { ChecksNormal MinimalCodeSectionBody IsMinimalCodeSectionBodyPrefix input.now count.old count.new result }
 {
     answer(check_code_section(alloc, input), input, count)
 }

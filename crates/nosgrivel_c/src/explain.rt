@@ -12,7 +12,7 @@ ghost use Rattle.wasm_codec.specs.declared.reader.refusal.Refusal.{Refusal};
 ghost use Rattle.wasm_codec.specs.Decoding.{ChecksAll};
 ghost use Rattle.wasm_codec.specs.formats.Combinators.{minimal_if, minimal_only};
 ghost use Rattle.wasm_code.specs.Modules.{IsModulePrefixOf};
-ghost use Rattle.wasm_sections.specs.formats.ModuleSections.{ShortestWholeModule, module_section, whole_module};
+ghost use Rattle.wasm_sections.specs.formats.ModuleSections.{MinimalWholeModule, module_section, whole_module};
 ghost use Rattle.nosgrivel_c.specs.Calls.{ChecksNormal};
 
 use flat_refusals::refusal::FlatRefusal;
@@ -32,7 +32,7 @@ pub extern "C" fn nosgrivel_explain_module(
     strict: bool,
     refusal: &mut FlatRefusal,
 ) -> u32
-    ensures strict { strict ≡ true → ChecksNormal ShortestWholeModule (IsModulePrefixOf (minimal_only module_section)) input.now refusal.old.at refusal.new.at result }
+    ensures strict { strict ≡ true → ChecksNormal MinimalWholeModule (IsModulePrefixOf (minimal_only module_section)) input.now refusal.old.at refusal.new.at result }
     ensures any { strict ≡ false → ChecksNormal whole_module.Encodes (IsModulePrefixOf module_section) input.now refusal.old.at refusal.new.at result }
     ensures status { refusal.new.status ≡ result }
     // The numbers are those of a refusal by the library.
@@ -48,7 +48,7 @@ pub extern "C" fn nosgrivel_explain_module(
 
 /// Checks whether every section of a module is minimally encoded, and says why and where one isn't.
 fn explain_strict(alloc: Global, input: &[u8], refusal: &mut FlatRefusal) -> u32
-    ensures checks { ChecksNormal ShortestWholeModule (IsModulePrefixOf (minimal_only module_section)) input.now refusal.old.at refusal.new.at result }
+    ensures checks { ChecksNormal MinimalWholeModule (IsModulePrefixOf (minimal_only module_section)) input.now refusal.old.at refusal.new.at result }
     ensures status { refusal.new.status ≡ result }
     ensures explained { result ≡ REFUSED → Explains true (CountsParts (minimal_if true module_section) input.now) input.now refusal.new }
     ensures accepted { result ≡ NORMAL → refusal.new ≡ flat_accepted (length input.now) }

@@ -1,7 +1,7 @@
 //! Lists of instructions (Core 3.0, Instructions).
 ghost use Rattle.wasm_codec.specs.Outcomes.{EncodesSome};
 ghost use Rattle.wasm_codec.specs.formats.Bodies.{to_end};
-ghost use Rattle.wasm_instructions.specs.formats.Instructions.{Instructions, ShortestInstructions, instruction};
+ghost use Rattle.wasm_instructions.specs.formats.Instructions.{Instructions, MinimalInstructions, instruction};
 ghost use Rattle.nosgrivel_c.specs.Calls.{ChecksNormal, JudgesNormal, RewritesNormal, WritesInPlace, WritesNormal};
 
 use crate::delivery::{answer, deliver, judge, report};
@@ -70,7 +70,7 @@ pub extern "C" fn nosgrivel_check_instructions(
     input: &[u8],
     count: &mut usize,
 ) -> u32
-    ensures checks { ChecksNormal ShortestInstructions (EncodesSome ShortestInstructions) input.now count.old count.new result }
+    ensures checks { ChecksNormal MinimalInstructions (EncodesSome MinimalInstructions) input.now count.old count.new result }
 {
     answer(check_instructions(alloc, input), input, count)
 }

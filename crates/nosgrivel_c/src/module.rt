@@ -1,6 +1,6 @@
 //! Modules (Core 3.0, Modules). The bodies of sections other than type and code sections are not decoded.
-ghost use Rattle.wasm_code.specs.formats.Modules.{typed_module, ShortestModule};
-ghost use Rattle.wasm_code.specs.Modules.{IsShortestModulePrefix, IsTypedModulePrefix};
+ghost use Rattle.wasm_code.specs.formats.Modules.{typed_module, MinimalModule};
+ghost use Rattle.wasm_code.specs.Modules.{IsMinimalModulePrefix, IsTypedModulePrefix};
 ghost use Rattle.nosgrivel_c.specs.Calls.{ChecksNormal, JudgesNormal, RewritesNormal, WritesInPlace, WritesNormal};
 
 use crate::delivery::{answer, deliver, judge, report};
@@ -64,7 +64,7 @@ pub extern "C" fn nosgrivel_judge_module(alloc: Global, input: &[u8], count: &mu
 /// allocates nothing.
 #[unsafe(no_mangle)]
 pub extern "C" fn nosgrivel_check_module(alloc: Global, input: &[u8], count: &mut usize) -> u32
-    ensures checks { ChecksNormal ShortestModule IsShortestModulePrefix input.now count.old count.new result }
+    ensures checks { ChecksNormal MinimalModule IsMinimalModulePrefix input.now count.old count.new result }
 {
     answer(check_module(alloc, input), input, count)
 }

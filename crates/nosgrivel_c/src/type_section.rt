@@ -1,5 +1,5 @@
 //! Bodies of type sections (Core 3.0, Type Section).
-ghost use Rattle.wasm_types.specs.formats.Types.{type_body, IsTypeBodyPrefix, ShortestTypeBody, IsShortestTypeBodyPrefix};
+ghost use Rattle.wasm_types.specs.formats.Types.{type_body, IsTypeBodyPrefix, MinimalTypeBody, IsMinimalTypeBodyPrefix};
 ghost use Rattle.nosgrivel_c.specs.Calls.{ChecksNormal, JudgesNormal, RewritesNormal, WritesInPlace, WritesNormal};
 
 use crate::delivery::{answer, deliver, judge, report};
@@ -69,7 +69,7 @@ pub extern "C" fn nosgrivel_check_type_section(
     input: &[u8],
     count: &mut usize,
 ) -> u32
-    ensures checks { ChecksNormal ShortestTypeBody IsShortestTypeBodyPrefix input.now count.old count.new result }
+    ensures checks { ChecksNormal MinimalTypeBody IsMinimalTypeBodyPrefix input.now count.old count.new result }
 {
     answer(check_type_section(alloc, input), input, count)
 }

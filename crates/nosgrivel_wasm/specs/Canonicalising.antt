@@ -3,10 +3,10 @@ use Rattle.std.specs.Prelude.{◌≡◌, ◌≢◌, ◌≤◌, ◌⊎◌, ℕ, L
 use Rattle.wasm_codec.specs.declared.reader.refusal.Refusal.{Refusal}
 use Rattle.wasm_codec.specs.Outcomes.{EncodesSome, IsLongestPrefix, IsNormalForm, place_alone}
 use Rattle.wasm_codec.specs.formats.Combinators.{minimal_only}
-use Rattle.wasm_code.specs.Judging.{RefusalLiesIn}
+use Rattle.wasm_code.specs.Longer.{RefusalLiesIn}
 use Rattle.wasm_code.specs.Modules.{CountsSections, IsModulePrefixOf}
-use Rattle.wasm_code.specs.declared.judging.Judgement.{Judgement}
-use Rattle.wasm_sections.specs.formats.ModuleSections.{ShortestWholeModule, module_section, whole_module}
+use Rattle.wasm_code.specs.declared.longer.CheckedInPlace.{CheckedInPlace}
+use Rattle.wasm_sections.specs.formats.ModuleSections.{MinimalWholeModule, module_section, whole_module}
 use Rattle.wasm_modules.specs.RefusalNumbers.{CountsParts}
 use Rattle.flat_refusals.specs.FlatRefusals.{flat_accepted, flat_refusal}
 use Rattle.flat_refusals.specs.declared.statuses.TheConstants.{NORMAL, REFUSED, NOT_NORMAL}
@@ -26,10 +26,10 @@ pub record Canonicalises (old new : List ℕ) (count : ℕ) (told : FlatRefusal)
   pub within : status ≢ REFUSED → count ≤ length new
   pub written : status ≢ REFUSED → IsNormalForm whole_module.Encodes whole_module.bytes old (take count new)
   -- The module was its own canonical form, and the numbers are those of no refusal.
-  pub canonical : status ≡ NORMAL → EncodesSome ShortestWholeModule old
+  pub canonical : status ≡ NORMAL → EncodesSome MinimalWholeModule old
   pub accepted : status ≡ NORMAL → told ≡ flat_accepted count
   -- It wasn't, and the refusal is at the end of the longest prefix that is minimally encoded.
-  pub longer : status ≡ NOT_NORMAL → EncodesSome ShortestWholeModule old → ⊥
+  pub longer : status ≡ NOT_NORMAL → EncodesSome MinimalWholeModule old → ⊥
   pub first : status ≡ NOT_NORMAL → IsLongestPrefix (IsModulePrefixOf (minimal_only module_section)) old told.at
   pub part : status ≡ NOT_NORMAL → IsFlat (CountsSections (minimal_only module_section) old) (length old) told
   -- Only a malformed module is refused, and the count is the length of the longest prefix that decodes.
@@ -41,10 +41,10 @@ pub record Canonicalises (old new : List ℕ) (count : ℕ) (told : FlatRefusal)
   pub statuses : (status ≡ NORMAL) ⊎ (status ≡ REFUSED) ⊎ (status ≡ NOT_NORMAL)
 
 -- What a canonical module, one with a first part that isn't minimal, and a malformed one tell.
-abbrev pub IsJudged : ℕ → Option Refusal → ℕ → FlatRefusal → ℕ → Type 0
-IsJudged len None count told status = (status ≡ NORMAL) × (count ≡ len) × (told ≡ flat_accepted len)
-IsJudged len (Some refusal) count told status = (status ≡ NOT_NORMAL) × (count ≡ len) × (told ≡ flat_refusal refusal)
+abbrev pub IsCanonicalised : ℕ → Option Refusal → ℕ → FlatRefusal → ℕ → Type 0
+IsCanonicalised len None count told status = (status ≡ NORMAL) × (count ≡ len) × (told ≡ flat_accepted len)
+IsCanonicalised len (Some refusal) count told status = (status ≡ NOT_NORMAL) × (count ≡ len) × (told ≡ flat_refusal refusal)
 
-abbrev pub IsTold : Result Judgement Refusal → ℕ → FlatRefusal → ℕ → Type 0
-IsTold (Ok judged) count told status = IsJudged judged.len judged.longer count told status
+abbrev pub IsTold : Result CheckedInPlace Refusal → ℕ → FlatRefusal → ℕ → Type 0
+IsTold (Ok checked) count told status = IsCanonicalised checked.len checked.longer count told status
 IsTold (Err refusal) count told status = (status ≡ REFUSED) × (count ≡ refusal.at) × (told ≡ flat_refusal refusal)

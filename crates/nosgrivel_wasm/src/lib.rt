@@ -15,7 +15,7 @@ use flat_refusals::message::write_message;
 use flat_refusals::refusal::FlatRefusal;
 use flat_refusals::statuses::{NORMAL, NOT_NORMAL, REFUSED};
 use wasm_codec::reader::refusal::Refusal;
-use wasm_modules::modules::{Judgement, judge_in_place};
+use wasm_modules::modules::{CheckedInPlace, rewrite_and_check_in_place};
 
 /// Replaces a module by its canonical form in place, and returns whether it was canonical.
 ///
@@ -31,7 +31,7 @@ pub extern "C" fn nosgrivel_canonicalise(
 ) -> u32
     ensures canonicalises { Canonicalises bytes.old bytes.new count.new refusal.new result }
 {
-    tell(judge_in_place(bytes), count, refusal)
+    tell(rewrite_and_check_in_place(bytes), count, refusal)
 }
 
 /// Writes the text of a refusal to the buffer, cut to its length, with a NUL at its end. Returns the length of the
@@ -47,17 +47,17 @@ pub extern "C" fn nosgrivel_message(refusal: &FlatRefusal, buffer: &mut [u8]) ->
 }
 
 /// Writes what a module was to the count and the refusal, and returns the status.
-fn tell(judged: Result<Judgement, Refusal>, count: &mut usize, told: &mut FlatRefusal) -> u32
-    ensures { IsTold judged count.new told.new result }
+fn tell(checked: Result<CheckedInPlace, Refusal>, count: &mut usize, told: &mut FlatRefusal) -> u32
+    ensures { IsTold checked count.new told.new result }
 {
-    match judged {
-        Ok(Judgement { len, longer: None }) => {
+    match checked {
+        Ok(CheckedInPlace { len, longer: None }) => {
             *count = len;
             *told = FlatRefusal::accepted(len);
             NORMAL
         }
         Ok(
-            Judgement {
+            CheckedInPlace {
                 len,
                 longer: Some(refusal),
             },

@@ -38,7 +38,7 @@ pub enum Mismatch {
     /// The bytes are read as other calls or sections.
     #[error("other calls or sections are read")]
     Read,
-    /// The strict reader takes what isn't in its shortest encoding, or refuses what is.
+    /// The strict reader takes what isn't in its minimal encoding, or refuses what is.
     #[error("the strict reader answers otherwise")]
     ReadStrictly,
     /// The check accepts or refuses otherwise than the strict reader.

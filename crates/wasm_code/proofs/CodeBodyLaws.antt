@@ -9,7 +9,7 @@ use Rattle.wasm_codec.proofs.BodyLaws.{Lawful-sized, Lawful-to-end, Lawful-then-
 use Rattle.wasm_types.proofs.TypeFormatLaws.{Lawful-val-type}
 use Rattle.wasm_instructions.proofs.InstructionFormatLaws.{Lawful-instruction, instruction_takes}
 use Rattle.wasm_code.specs.declared.code.CodeBody.{CodeBody}
-use Rattle.wasm_code.specs.formats.CodeBodies.{local_group, function_code, code_body_of, code_body_parts, code_body, code_section_body, ShortestCodeSectionBody}
+use Rattle.wasm_code.specs.formats.CodeBodies.{local_group, function_code, code_body_of, code_body_parts, code_body, code_section_body, MinimalCodeSectionBody}
 use Rattle.wasm_types.specs.declared.types.value.ValType.{ValType}
 use Rattle.wasm_instructions.specs.formats.Instructions.{Instruction, instruction}
 use Rattle.wasm_codec.specs.declared.reader.cursor.Fault.{Fault}
@@ -43,10 +43,10 @@ pub Lawful-code-section-body : IsLawful code_section_body
 unfolding code_section_body
 Lawful-code-section-body = Lawful-items Lawful-code_body
 
--- the encodings by shortest ones alone are the shortest encodings
-pub is_shortest_code : (bytes : List ℕ) (bodies : List CodeBody) → ShortestCodeSectionBody bytes bodies ↔ (code_section_body.Encodes bytes bodies × (bytes ≡ code_section_body.bytes bodies))
+-- the encodings by minimal ones alone are the minimal encodings
+pub is_minimal_code : (bytes : List ℕ) (bodies : List CodeBody) → MinimalCodeSectionBody bytes bodies ↔ (code_section_body.Encodes bytes bodies × (bytes ≡ code_section_body.bytes bodies))
 unfolding code_section_body
-is_shortest_code = list_minimal_only Lawful-code_body
+is_minimal_code = list_minimal_only Lawful-code_body
 
 -- the laws of code bodies, for functions that name them
 pub ruleset code_laws = (Lawful-code_body, code_body_takes, Lawful-function-code)
@@ -54,18 +54,18 @@ pub ruleset code_laws = (Lawful-code_body, code_body_takes, Lawful-function-code
 -- the size and the bytes after it, as the code has them
 pub record CodeAt (old outer code : Place) : Type 0 where
   pub body : body_at old ≡ Some (code.left, outer)
-  pub tells : code ≡ place outer.shortest code.left
+  pub tells : code ≡ place outer.minimal code.left
 
 no_items : {A : Type 0} (F : Format A) (p mid : Place) → u32_at p ≡ Some (0, mid) → (items F).at p ≡ Some ([], mid)
 unfolding times_at
 no_items F p mid none = rw none refl
 
 pub code_read : (old outer code mid end : Place) (locals : List (ℕ × ValType)) (calls : List Instruction) → CodeAt old outer code → (items local_group).at code ≡ Some (locals, mid) → (to_end instruction).at mid ≡ Some (calls, end) → end.left ≡ []
-    → code_body.at old ≡ Some (code_body_of (locals, calls), place end.shortest outer.left)
+    → code_body.at old ≡ Some (code_body_of (locals, calls), place end.minimal outer.left)
 unfolding code_body
 code_read old outer code mid end locals calls at l i none =
     let inside = ap function_code.at (sym at.tells) ∙ both_read (items local_group) (to_end instruction) code mid end locals calls l i in
-    made_read code_body_of code_body_parts (sized function_code) old (place end.shortest outer.left) (locals, calls) (sized_read function_code old outer end code.left (locals, calls) at.body inside none)
+    made_read code_body_of code_body_parts (sized function_code) old (place end.minimal outer.left) (locals, calls) (sized_read function_code old outer end code.left (locals, calls) at.body inside none)
 
 pub no_size : (old new last : Place) (fault : Fault) → Reads body_at old new (Err fault) → Reads code_body.at old last (Err fault)
 unfolding code_body
@@ -82,7 +82,7 @@ pub no_calls : (old outer code mid new last : Place) (locals : List (ℕ × ValT
 no_calls old outer code mid new last locals fault at l none = fault_of_part (to_end instruction).at code_body.at mid new old last fault none (λ e. no_code old outer code at (second_none (items local_group) (to_end instruction) code mid locals l e))
 
 -- a body without locals, whose instructions are a run
-pub short_body : (calls : List ℕ) (n : ℕ) → IsBytes ((suc n) ∷ 0 ∷ calls) → suc n < 128 → BeginsShort instruction calls n → Scans code_body ((suc n) ∷ 0 ∷ calls) (Some (scanned.Shortest (suc (suc n))))
+pub short_body : (calls : List ℕ) (n : ℕ) → IsBytes ((suc n) ∷ 0 ∷ calls) → suc n < 128 → BeginsShort instruction calls n → Scans code_body ((suc n) ∷ 0 ∷ calls) (Some (scanned.Minimal (suc (suc n))))
 short_body calls n fits lt begins =
     let outer = place true (drop n calls) in
     let code = place true (0 ∷ take n calls) in
@@ -96,10 +96,10 @@ short_body calls n fits lt begins =
     (omega (arith, begins.within), (code_body_of ([], run.values), read))
 
 -- the same, as code finds it
-pub short_found : (bytes calls : List ℕ) (n : ℕ) → IsBytes bytes → 2 ≤ length bytes → get_or bytes 0 0 ≡ suc n → get_or bytes 1 0 ≡ 0 → suc n < 128 → calls ≡ drop 2 bytes → BeginsShort instruction calls n → Scans code_body bytes (Some (scanned.Shortest (2 + n)))
+pub short_found : (bytes calls : List ℕ) (n : ℕ) → IsBytes bytes → 2 ≤ length bytes → get_or bytes 0 0 ≡ suc n → get_or bytes 1 0 ≡ 0 → suc n < 128 → calls ≡ drop 2 bytes → BeginsShort instruction calls n → Scans code_body bytes (Some (scanned.Minimal (2 + n)))
 short_found [] calls n fits some first second lt is begins = absurd (omega (arith, some))
 short_found (a ∷ []) calls n fits some first second lt is begins = absurd (omega (arith, some))
 short_found (a ∷ b ∷ bytes) calls n fits some first second lt is begins =
     let are : a ∷ b ∷ bytes ≡ (suc n) ∷ 0 ∷ calls = rw (first, second, is) refl in
     let count : 2 + n ≡ suc (suc n) = omega arith in
-    subst (λ (l : List ℕ). Scans code_body l (Some (scanned.Shortest (2 + n)))) (sym are) (rw count (short_body calls n (subst IsBytes are fits) lt begins))
+    subst (λ (l : List ℕ). Scans code_body l (Some (scanned.Minimal (2 + n)))) (sym are) (rw count (short_body calls n (subst IsBytes are fits) lt begins))

@@ -2,7 +2,7 @@
 use Rattle.std.proofs.Common.{◌≡◌, ℕ, suc, ◌-◌, ◌^◌, ◌<◌, ◌≤◌, List, [], ◌∷◌, ◌++◌, length, take, drop, append_assoc, length-append, Result, Ok, Err, refl, ap, subst, ◌∙◌, inr, arith, sym}
 use Rattle.std.specs.Prelude.{OnOk}
 use Rattle.std.specs.List.{All, AllByRecursion}
-use Rattle.wasm_codec.specs.Encoding.{IsRefusal, IsCount, IsShortest, OnlyTooLong, IsShortestOrLonger}
+use Rattle.wasm_codec.specs.Encoding.{IsRefusal, IsCount, IsMinimal, OnlyTooLong, IsMinimalOrLonger}
 use Rattle.wasm_codec.specs.formats.Numbers.{EncodesU32}
 use Rattle.wasm_codec.specs.Leb128.{unsigned_leb128}
 use Rattle.wasm_codec.specs.formats.Combinators.{items, u32}
@@ -74,10 +74,10 @@ pub body_too_long : (b : CodeBody) (old after : List ℕ) (start : ℕ) → Func
 body_too_long b old after start w long = inr (λ can. let few : length (func_bytes b) < 2 ^ 32 = can.2 in omega (arith, few, long, func_length b old after start w), refl)
 
 -- locals that were written are in range
-pub locals_in_range : (locals : List (ℕ × ValType)) → All (λ (p : ℕ × ValType). IsShortest EncodesU32 unsigned_leb128 p.0 × IsShortest val_type.Encodes val_type.bytes p.1) locals → AllByRecursion local_group.InRange locals
+pub locals_in_range : (locals : List (ℕ × ValType)) → All (λ (p : ℕ × ValType). IsMinimal EncodesU32 unsigned_leb128 p.0 × IsMinimal val_type.Encodes val_type.bytes p.1) locals → AllByRecursion local_group.InRange locals
 locals_in_range [] h = tt
 locals_in_range (p ∷ ps) h =
-    let first : IsShortest EncodesU32 unsigned_leb128 p.0 × IsShortest val_type.Encodes val_type.bytes p.1 = h 0 p (omega arith) in
+    let first : IsMinimal EncodesU32 unsigned_leb128 p.0 × IsMinimal val_type.Encodes val_type.bytes p.1 = h 0 p (omega arith) in
     ((in_range_of u32 Lawful-u32 p.0 first.0, in_range_of val_type Lawful-val-type p.1 first.1), locals_in_range ps (λ k d lt. h (suc k) d (omega (arith, lt))))
 
 -- a body that can be written is in range, as its locals and instructions are
@@ -86,19 +86,19 @@ unfolding code_body
 in_range_by_parts b can locals calls = ((((can.0, locals), calls), can.2), refl)
 
 -- a body that was written is in range
-pub body_in_range : {T E : Type 0} (r : Result T E) (b : CodeBody) (locals : List (ℕ × ValType)) (calls : List Instruction) → locals ≡ b.locals → calls ≡ b.calls → OnOk r (CountedBody b) → All (λ (p : ℕ × ValType). IsShortest EncodesU32 unsigned_leb128 p.0 × IsShortest val_type.Encodes val_type.bytes p.1) locals → Instructions (instructions_bytes calls) calls → OnOk r (code_body.InRange b)
+pub body_in_range : {T E : Type 0} (r : Result T E) (b : CodeBody) (locals : List (ℕ × ValType)) (calls : List Instruction) → locals ≡ b.locals → calls ≡ b.calls → OnOk r (CountedBody b) → All (λ (p : ℕ × ValType). IsMinimal EncodesU32 unsigned_leb128 p.0 × IsMinimal val_type.Encodes val_type.bytes p.1) locals → Instructions (instructions_bytes calls) calls → OnOk r (code_body.InRange b)
 body_in_range (Ok x) b locals calls these those can written encoded = in_range_by_parts b can
     (subst (λ (l : List (ℕ × ValType)). AllByRecursion local_group.InRange l) these (locals_in_range locals written))
     (subst (λ (l : List Instruction). AllByRecursion instruction.InRange l) those (calls_in_range calls encoded))
 body_in_range (Err e) b locals calls these those can written encoded = tt
 
-pub body_is_written : {T E : Type 0} (r : Result T E) (b : CodeBody) → OnOk r (code_body.InRange b) → OnOk r (IsShortest code_body.Encodes code_body.bytes b)
-body_is_written (Ok x) b fits = written Lawful-code_body.shortest b fits
+pub body_is_written : {T E : Type 0} (r : Result T E) (b : CodeBody) → OnOk r (code_body.InRange b) → OnOk r (IsMinimal code_body.Encodes code_body.bytes b)
+body_is_written (Ok x) b fits = written Lawful-code_body.minimal b fits
 body_is_written (Err e) b fits = tt
 
 pub body_encodes : {T E : Type 0} (r : Result T E) (b : CodeBody) → OnOk r (code_body.InRange b) → OnOk r (code_body.Encodes (code_body.bytes b) b)
-body_encodes (Ok x) b fits = Lawful-code_body.shortest.encodes b fits
+body_encodes (Ok x) b fits = Lawful-code_body.minimal.encodes b fits
 body_encodes (Err e) b fits = tt
 
-pub body_shortest : (b : CodeBody) (bytes : List ℕ) → code_body.Encodes bytes b → IsShortestOrLonger bytes (code_body.bytes b)
-body_shortest b bytes g = Lawful-code_body.shortest.least bytes b g
+pub body_minimal : (b : CodeBody) (bytes : List ℕ) → code_body.Encodes bytes b → IsMinimalOrLonger bytes (code_body.bytes b)
+body_minimal b bytes g = Lawful-code_body.minimal.least bytes b g

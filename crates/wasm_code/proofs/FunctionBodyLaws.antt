@@ -28,10 +28,10 @@ function_body_takes = takes_bytes Lawful-function-body refl
 pub ruleset function_laws = (Lawful-function-body, function_body_takes, Lawful-function-bytes)
 
 pub function_read : (old outer body mid : Place) (locals : List (ℕ × ValType)) → CodeAt old outer body → (items local_group).at body ≡ Some (locals, mid)
-    → function_body.at old ≡ Some ((locals, mid.left), place mid.shortest outer.left)
+    → function_body.at old ≡ Some ((locals, mid.left), place mid.minimal outer.left)
 unfolding function_body
 function_read old outer body mid locals at l =
-    let end = place mid.shortest [] in
+    let end = place mid.minimal [] in
     let inside = ap function_bytes.at (sym at.tells) ∙ both_read (items local_group) bytes_to_end body mid end locals mid.left l refl in
     sized_read function_bytes old outer end body.left (locals, mid.left) at.body inside refl
 

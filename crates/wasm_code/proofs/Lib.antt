@@ -7,5 +7,5 @@ pub mod ReasonLaws
 pub mod ReasonExclusion
 pub mod PrefixLaws
 pub mod SectionStops
-pub mod JudgedModules
+pub mod CheckedModules
 pub mod FunctionBodyLaws

@@ -10,7 +10,7 @@ use Rattle.wasm_codec.proofs.BodyLaws.{Lawful-body, Lawful-bytes_to_end, Lawful-
 use Rattle.wasm_codec.proofs.MinimalIfLaws.{joined_minimal_only}
 use Rattle.wasm_types.proofs.TypeFormatLaws.{Lawful-type-body}
 use Rattle.wasm_code.specs.formats.Sections.{header, SectionParts, section_of, type_entries, code_bodies, raw_bytes, typed_section_of}
-use Rattle.wasm_code.specs.formats.Modules.{section_parts, raw_section, entries_part, bodies_part, bytes_part, held_by, content_parts, typed_section, module_of, raw_module, ShortestModule, typed_module}
+use Rattle.wasm_code.specs.formats.Modules.{section_parts, raw_section, entries_part, bodies_part, bytes_part, held_by, content_parts, typed_section, module_of, raw_module, MinimalModule, typed_module}
 use Rattle.wasm_codec.specs.formats.Combinators.{Format, minimal_only}
 use Rattle.wasm_code.proofs.CodeBodyLaws.{Lawful-code-section-body}
 use Rattle.std.specs.Prelude.{MatchOption, IfSome, IfNone}
@@ -63,10 +63,10 @@ Lawful-raw-module = Lawful-module-of Lawful-raw-section raw_section_takes
 pub Lawful-decoded-module : IsLawfulBody typed_module
 Lawful-decoded-module = Lawful-module-of Lawful-decoded-section typed_section_takes
 
--- a module of sections in their shortest encodings is the shortest encoding of its list
+-- a module of sections in their minimal encodings is the minimal encoding of its list
 module _ {V : Type 0} {F : Format V} (r : IsLawful F) where
-  pub is_shortest_module_of : (bytes : List ℕ) (sections : List V) → (module_of (minimal_only F)).Encodes bytes sections ↔ ((module_of F).Encodes bytes sections × (bytes ≡ (module_of F).bytes sections))
-  is_shortest_module_of bytes sections = (λ g. whole g, λ g. parts g.0 g.1) where
+  pub is_minimal_module_of : (bytes : List ℕ) (sections : List V) → (module_of (minimal_only F)).Encodes bytes sections ↔ ((module_of F).Encodes bytes sections × (bytes ≡ (module_of F).bytes sections))
+  is_minimal_module_of bytes sections = (λ g. whole g, λ g. parts g.0 g.1) where
     whole : (module_of (minimal_only F)).Encodes bytes sections → (module_of F).Encodes bytes sections × (bytes ≡ (module_of F).bytes sections)
     whole g =
         let j = (joined_minimal_only r g.0 sections).0 g.2 in
@@ -77,8 +77,8 @@ module _ {V : Type 0} {F : Format V} (r : IsLawful F) where
         let same : g.0 ≡ flat_map F.bytes sections = append_cancel_left header g.0 (flat_map F.bytes sections) (sym g.1 ∙ e) in
         (g.0, g.1, (joined_minimal_only r g.0 sections).1 (g.2, same))
 
-pub is_shortest_module : (bytes : List ℕ) (sections : List SectionParts) → ShortestModule bytes sections ↔ (raw_module.Encodes bytes sections × (bytes ≡ raw_module.bytes sections))
-is_shortest_module = is_shortest_module_of Lawful-raw-section
+pub is_minimal_module : (bytes : List ℕ) (sections : List SectionParts) → MinimalModule bytes sections ↔ (raw_module.Encodes bytes sections × (bytes ≡ raw_module.bytes sections))
+is_minimal_module = is_minimal_module_of Lawful-raw-section
 
 -- the laws of sections, for functions that name them
 pub ruleset section_laws = (Lawful-raw-section, raw_section_takes, Lawful-decoded-section, typed_section_takes)
@@ -167,7 +167,7 @@ headed_normal {V} {F} r some bytes body start end e h fits rest none =
     record {
       value = all.values;
       encoded = (body, e, subst (λ (l : List ℕ). Joined F.Encodes l all.values) h.left all.encodes);
-      is_shortest = all.written ∙ ap (λ (t : List ℕ). t ++ flat_map F.bytes all.values) h.done;
+      is_minimal = all.written ∙ ap (λ (t : List ℕ). t ++ flat_map F.bytes all.values) h.done;
     }
 
 -- one section isn't whole

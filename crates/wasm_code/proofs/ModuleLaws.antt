@@ -7,7 +7,7 @@ use Rattle.wasm_codec.proofs.Laws.{IsBytes-back}
 use Rattle.wasm_codec.proofs.BodyLaws.{IsBytes-prefix}
 use Rattle.std.proofs.lemmas.Grind.{flat_map-append}
 use Rattle.std.proofs.lemmas.List.{append-nil}
-use Rattle.wasm_codec.specs.Encoding.{byte_list_bytes, IsShortestOrLonger}
+use Rattle.wasm_codec.specs.Encoding.{byte_list_bytes, IsMinimalOrLonger}
 use Rattle.wasm_code.specs.formats.Sections.{header, SectionParts, section_of, Content, TypedSection, typed_section_of}
 use Rattle.wasm_code.specs.Modules.{IsSection, CanHold, IsTypedSection, framed}
 use Rattle.wasm_code.specs.formats.Modules.{raw_section, raw_module, typed_section, typed_module, HoldsContent}
@@ -33,7 +33,7 @@ sections_in_range (s ∷ sections) fits are =
 pub all_encoded : (bytes : List ℕ) (sections : List SectionParts) → IsBytes bytes → AllByRecursion IsSection sections → bytes ≡ raw_module.bytes sections → raw_module.Encodes bytes sections
 all_encoded bytes sections are fits e =
     let within : IsBytes (header ++ flat_map raw_section.bytes sections) = subst IsBytes e are in
-    subst (λ (t : List ℕ). raw_module.Encodes t sections) (sym e) (Lawful-raw-module.shortest.encodes sections (sections_in_range sections fits (IsBytes-back header (flat_map raw_section.bytes sections) within)))
+    subst (λ (t : List ℕ). raw_module.Encodes t sections) (sym e) (Lawful-raw-module.minimal.encodes sections (sections_in_range sections fits (IsBytes-back header (flat_map raw_section.bytes sections) within)))
 
 -- a module with one section more
 pub one_section_more : (old new encoding body : List ℕ) (sections : List SectionParts) (id : ℕ) → old ≡ raw_module.bytes sections → encoding ≡ byte_list_bytes body → new ≡ old ++ id ∷ encoding → new ≡ raw_module.bytes (sections ++ section_of (id, body) ∷ [])
@@ -50,8 +50,8 @@ pub goes_on : {T E : Type 0} (r : Result T E) (old new encoding body : List ℕ)
 goes_on (Ok x) old new encoding body sections id appended written is = one_section_more old new encoding body sections id written is appended
 goes_on (Err e) old new encoding body sections id appended written is = tt
 
-pub raw_shortest : (sections : List SectionParts) (bytes : List ℕ) → raw_module.Encodes bytes sections → IsShortestOrLonger bytes (raw_module.bytes sections)
-raw_shortest sections bytes g = Lawful-raw-module.shortest.least bytes sections g
+pub raw_minimal : (sections : List SectionParts) (bytes : List ℕ) → raw_module.Encodes bytes sections → IsMinimalOrLonger bytes (raw_module.bytes sections)
+raw_minimal sections bytes g = Lawful-raw-module.minimal.least bytes sections g
 
 -- ---- sections in range
 
@@ -63,9 +63,9 @@ typed_sections_in_range : (sections : List TypedSection) → AllByRecursion IsTy
 typed_sections_in_range [] fits = tt
 typed_sections_in_range (s ∷ sections) fits = (typed_section_in_range s fits.0, typed_sections_in_range sections fits.1)
 
--- their shortest encoding encodes them
+-- their minimal encoding encodes them
 pub all_typed_encoded : (bytes : List ℕ) (sections : List TypedSection) → AllByRecursion IsTypedSection sections → bytes ≡ typed_module.bytes sections → typed_module.Encodes bytes sections
-all_typed_encoded bytes sections fits e = subst (λ (t : List ℕ). typed_module.Encodes t sections) (sym e) (Lawful-decoded-module.shortest.encodes sections (typed_sections_in_range sections fits))
+all_typed_encoded bytes sections fits e = subst (λ (t : List ℕ). typed_module.Encodes t sections) (sym e) (Lawful-decoded-module.minimal.encodes sections (typed_sections_in_range sections fits))
 
 -- ---- a typed module as sections
 
@@ -88,4 +88,4 @@ all_framed (s ∷ sections) fits = (fits.0.section, all_framed sections fits.1)
 
 -- what was written of a section encodes what it holds
 pub is_held : (id : ℕ) (c : Content) → CanHold id c → HoldsContent (framed (typed_section_of (id, c))) c
-is_held id c fits = (Lawful-held id).shortest.encodes c fits
+is_held id c fits = (Lawful-held id).minimal.encodes c fits

@@ -11,9 +11,9 @@ use Rattle.wasm_codec.specs.declared.reader.refusal.SectionPlace.{SectionPlace}
 use Rattle.wasm_codec.specs.formats.Grammar.{Grammar, Joined}
 use Rattle.wasm_codec.specs.formats.Combinators.{Format, minimal_only}
 use Rattle.wasm_codec.specs.declared.reader.refusal.Refusal.{Refusal}
-use Rattle.wasm_lists.specs.declared.judging.LongerItem.{LongerItem}
-use Rattle.wasm_lists.specs.Judging.{CountsFirst, TellsFirst}
-use Rattle.wasm_code.specs.Judging.{IsLongerAt}
+use Rattle.wasm_lists.specs.declared.longer.LongerItem.{LongerItem}
+use Rattle.wasm_lists.specs.Longer.{CountsFirst, TellsFirst}
+use Rattle.wasm_code.specs.Longer.{IsLongerAt}
 use Rattle.wasm_codec.specs.Outcomes.{EncodesSome, HoldsAtRefusal, HoldsOfRefusal, IfRefusedInItem, IsLongestPrefix, IsMalformed, IsNumbered, error_of, item_of, item_of_fault, read_error_of}
 use Rattle.wasm_codec.specs.Lists.{HasJoinedBefore}
 use Rattle.wasm_codec.specs.Rewriter.{CountsPassed, StopsBehind, StopsInItem}

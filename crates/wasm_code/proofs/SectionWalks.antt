@@ -18,14 +18,14 @@ pub record IsNext (s : SectionParts) (rest : List SectionParts) (left : List ℕ
 pub next_section : (here mid : Place) (s : SectionParts) (rest : List SectionParts) → 0 < length here.left → Joined raw_section.Encodes here.left rest → raw_section.at here ≡ Some (s, mid) → IsNext s rest mid.left
 next_section here mid s [] some none read = absurd (omega (arith, some, ap (length {A = ℕ}) none))
 next_section here mid s (v ∷ rest) some g read =
-    let there = ap (λ (l : List ℕ). raw_section.at (place here.shortest l)) g.2 ∙ Lawful-raw-section.reads.complete g.0 v g.1 here.shortest g.3 in
-    let same = some_is (s, mid) (v, place (keeps here.shortest g.0 (raw_section.bytes v)) g.1) (sym read ∙ there) in
+    let there = ap (λ (l : List ℕ). raw_section.at (place here.minimal l)) g.2 ∙ Lawful-raw-section.reads.complete g.0 v g.1 here.minimal g.3 in
+    let same = some_is (s, mid) (v, place (keeps here.minimal g.0 (raw_section.bytes v)) g.1) (sym read ∙ there) in
     record { after = rest; is = ap (λ (x : SectionParts × Place). x.0 ∷ rest) (sym same); encodes = subst (λ (l : List ℕ). Joined raw_section.Encodes l rest) (ap (λ (x : SectionParts × Place). x.1.left) (sym same)) g.4 }
 
 pub no_section : (here : Place) (rest : List SectionParts) → 0 < length here.left → Joined raw_section.Encodes here.left rest → raw_section.at here ≡ None → ⊥
 no_section here [] some none read = absurd (omega (arith, some, ap (length {A = ℕ}) none))
 no_section here (v ∷ rest) some g read =
-    let there = ap (λ (l : List ℕ). raw_section.at (place here.shortest l)) g.2 ∙ Lawful-raw-section.reads.complete g.0 v g.1 here.shortest g.3 in
+    let there = ap (λ (l : List ℕ). raw_section.at (place here.minimal l)) g.2 ∙ Lawful-raw-section.reads.complete g.0 v g.1 here.minimal g.3 in
     clash (sym read ∙ there)
   where
     clash : {x : SectionParts × Place} → None ≡ Some x → ⊥

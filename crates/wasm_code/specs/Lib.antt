@@ -4,4 +4,4 @@ pub mod CodeCounts
 pub mod PrefixFree
 pub mod Reasons
 pub mod DecodedPrefixes
-pub mod Judging
+pub mod Longer

@@ -54,8 +54,8 @@ abbrev pub IsModulePrefixMinimalIf : Bool → List ℕ → Type 0
 IsModulePrefixMinimalIf strict = IsModulePrefixOf (minimal_if strict raw_section)
 
 -- The prefix is empty, or it is the header and sections whose sizes are minimally encoded.
-abbrev pub IsShortestModulePrefix : List ℕ → Type 0
-IsShortestModulePrefix = IsModulePrefixMinimalIf true
+abbrev pub IsMinimalModulePrefix : List ℕ → Type 0
+IsMinimalModulePrefix = IsModulePrefixMinimalIf true
 
 -- The section with its body as bytes.
 abbrev pub framed : TypedSection → SectionParts

@@ -1,7 +1,7 @@
 //! Code bodies: the locals and instructions of functions (Core 3.0, Code Section).
 ghost use Rattle.std.specs.Prelude.{◌≡◌, IfOk, IfErr, ◌++◌, ℕ, List, OnOk, OnErr, length, take};
 ghost use Rattle.wasm_codec.specs.declared.encode.EncodeError.TheVariants.{Memory};
-ghost use Rattle.wasm_codec.specs.Encoding.{IsRefusal, IsShortest, IsShortestOrLonger, OnlyTooLong};
+ghost use Rattle.wasm_codec.specs.Encoding.{IsRefusal, IsMinimal, IsMinimalOrLonger, OnlyTooLong};
 ghost use Rattle.wasm_code.specs.CodeCounts.{CountedBody};
 ghost use Rattle.wasm_code.specs.formats.CodeBodies.{code_body};
 
@@ -57,11 +57,11 @@ fn copies_of(alloc: Global, calls: &[Call]) -> Result<Vec<Call>, EncodeError>
 ///
 /// Fails with `TooLong` if there are more than 4,294,967,295 groups of locals, if a list in an instruction is longer,
 /// or if the size is over 4,294,967,295.
-#[tactic(auto, using(crate::proofs::CodeBodyWriting::body_is_written, crate::proofs::CodeBodyWriting::body_encodes, crate::proofs::CodeBodyWriting::body_shortest))]
+#[tactic(auto, using(crate::proofs::CodeBodyWriting::body_is_written, crate::proofs::CodeBodyWriting::body_encodes, crate::proofs::CodeBodyWriting::body_minimal))]
 impl Encode for CodeBody {
     ghost bytes = { code_body.bytes };
 
-    ghost IsWritten = { IsShortest code_body.Encodes code_body.bytes };
+    ghost IsWritten = { IsMinimal code_body.Encodes code_body.bytes };
 
     ghost CanEncode = { CountedBody };
 
@@ -72,12 +72,12 @@ impl Encode for CodeBody {
         ensures can { OnOk result (CountedBody self.now) }
         ensures refused { IfErr result (IsRefusal CountedBody OnlyTooLong self.now) }
         ensures err { OnErr result (sink.new.items ≡ sink.old.items) }
-        ensures written { OnOk result (IsShortest code_body.Encodes code_body.bytes self.now) }
+        ensures written { OnOk result (IsMinimal code_body.Encodes code_body.bytes self.now) }
         // The bytes encode the body.
         ensures encodes { OnOk result (code_body.Encodes (code_body.bytes self.now) self.now) }
         // Every other encoding of the body is longer.
-        ensures shortest { (bytes : List ℕ) → code_body.Encodes bytes self.now →
-            IsShortestOrLonger bytes (code_body.bytes self.now) }
+        ensures minimal { (bytes : List ℕ) → code_body.Encodes bytes self.now →
+            IsMinimalOrLonger bytes (code_body.bytes self.now) }
     {
         let start = sink.len();
         let result = append_body(self, sink);

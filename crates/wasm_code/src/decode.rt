@@ -6,7 +6,7 @@ ghost use Rattle.wasm_codec.specs.declared.reader.DecodeError.TheVariants.{Memor
 ghost use Rattle.wasm_codec.specs.formats.Combinators.{Format};
 ghost use Rattle.wasm_code.specs.DecodedPrefixes.{ArePrefixes};
 ghost use Rattle.wasm_code.specs.Reasons.{IsTrueOf, TellsLonger};
-ghost use Rattle.wasm_codec.specs.Decoding.{IsMinimal, ReadsAll, ChecksAll, RewritesAll, RewritesInPlace, Decodes, DecodesMinimal, Checks, NormalisesInPlace, NormalisesSlice, Normalises};
+ghost use Rattle.wasm_codec.specs.Decoding.{TakesMinimal, ReadsAll, ChecksAll, RewritesAll, RewritesInPlace, Decodes, DecodesMinimal, Checks, NormalisesInPlace, NormalisesSlice, Normalises};
 
 use crate::reasons::{compared, explained};
 use std::alloc::Global;
@@ -60,7 +60,7 @@ pub trait Decode<'a> {
     /// Tells the proof that the format is lawful. The call does nothing.
     fn is_lawful()
         ensures lawful { IsLawfulBody format }
-        ensures minimal { IsMinimal format Minimal }
+        ensures minimal { TakesMinimal format Minimal }
         ensures prefixes { ArePrefixes format.Encodes IsPrefix }
         ensures minimal_prefixes { ArePrefixes Minimal IsMinimalPrefix };
 

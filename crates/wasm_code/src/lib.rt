@@ -4,7 +4,7 @@
 
 pub mod code;
 pub mod decode;
-pub mod judging;
+pub mod longer;
 pub mod normaliser;
 pub mod raw;
 pub mod reasons;

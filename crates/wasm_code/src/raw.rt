@@ -4,12 +4,12 @@ ghost use Rattle.wasm_codec.specs.Reading.{map_ok};
 ghost use Rattle.wasm_codec.specs.Places.{Reads};
 ghost use Rattle.wasm_codec.specs.formats.Bodies.{byte_list, bytes_to_end};
 ghost use Rattle.wasm_code.specs.formats.Sections.{header, parts_of, SectionParts, all_parts_of};
-ghost use Rattle.wasm_code.specs.formats.Modules.{raw_section, module_of, raw_module, ShortestModule};
+ghost use Rattle.wasm_code.specs.formats.Modules.{raw_section, module_of, raw_module, MinimalModule};
 ghost use Rattle.wasm_codec.specs.Outcomes.{HoldsOfRefusal, IfMalformed, IfRefusedInItem, IsNumbered, LiesIn, IsMalformed, error_of, item_of, item_of_fault, offsets_of, place_of_error, read_error_of};
 ghost use Rattle.std.proofs.lemmas.List.{map_push};
 ghost use Rattle.wasm_codec.specs.formats.Combinators.{minimal_if, minimal_only};
 ghost use Rattle.wasm_codec.specs.declared.reader.ReadError.TheVariants.{Refused};
-ghost use Rattle.wasm_code.specs.Modules.{CountsSections, IsModulePrefix, IsModulePrefixOf, IsShortestModulePrefix};
+ghost use Rattle.wasm_code.specs.Modules.{CountsSections, IsModulePrefix, IsModulePrefixOf, IsMinimalModulePrefix};
 ghost use Rattle.wasm_codec.specs.Decoding.{Decodes, DecodesMinimal, ReadsAll, Checks, ChecksAll, RewritesInPlace};
 ghost use Rattle.wasm_code.specs.PrefixFree.{SectionsArePrefixFree};
 ghost use Rattle.wasm_code.specs.Modules.{ReadsBack, ReadsBackTyped};
@@ -148,7 +148,7 @@ pub fn read_module_strict<'a>(
     alloc: Global,
     bytes: &'a [u8],
 ) -> Result<Vec<RawSection<'a>>, ReadError>
-    ensures decodes { DecodesMinimal (λ sections. all_parts_of sections.items) raw_module ShortestModule IsShortestModulePrefix bytes.now result }
+    ensures decodes { DecodesMinimal (λ sections. all_parts_of sections.items) raw_module MinimalModule IsMinimalModulePrefix bytes.now result }
     ensures reads_back { ReadsBack (λ sections. all_parts_of sections.items) bytes.now result }
 {
     without_reason(read_module_of::<RawSection<'_>, true>(alloc, bytes))
@@ -220,7 +220,7 @@ impl<'a> Readable<'a> for RawSection<'a> {
 /// assert_eq!(rt; padded.err(), Some(ReadError::Refused { at: 8 }));
 /// ```
 pub fn check_module(alloc: Global, bytes: &[u8]) -> Result<(), ReadError>
-    ensures checks { Checks raw_module ShortestModule IsShortestModulePrefix bytes.now result }
+    ensures checks { Checks raw_module MinimalModule IsMinimalModulePrefix bytes.now result }
 {
     without_reason(check_raw_module(alloc, bytes))
 }

@@ -1,6 +1,7 @@
 //! Sections with their bodies as bytes (Core 3.0, Sections).
-ghost use Rattle.std.specs.Prelude.{◌≡◌, ◌++◌, ◌∷◌, OnOk, OnErr, IfErr, length};
+ghost use Rattle.std.specs.Prelude.{◌≡◌, ◌++◌, ◌∷◌, Some, None, OnOk, OnErr, IfErr, IfSome, IfNone, length};
 ghost use Rattle.wasm_codec.specs.Encoding.{byte_list_bytes, IsCount, IsRefusal, OnlyTooLong, too_long_at_once};
+ghost use Rattle.wasm_code.specs.formats.Sections.{all_parts_of, first_body_of};
 
 use std::alloc::Allocator;
 use wasm_codec::encode::{EncodeError, keep_or_undo};
@@ -48,6 +49,30 @@ impl<'a> Encode for RawSection<'a> {
     fn encode<A: Allocator>(&self, sink: &mut Vec<u8, A>) -> Result<(), EncodeError> {
         encode_bytes(self.body, sink)
     }
+}
+
+/// Returns the body of the first section whose id is `id`, among sections from
+/// [`read_module`](crate::raw::read_module) for example. Returns `None` if there is none.
+///
+/// # Examples
+///
+/// ```
+/// # use wasm_encoder::{first_body, read_module};
+/// let module = b"\0asm\x01\0\0\0\x00\x02\x01n\x03\x02\x01\x00";
+/// let sections = read_module(rt.alloc(), module)?;
+/// let body = first_body(sections.as_slice(), 3).unwrap_or_default();
+/// assert_eq!(rt; body, b"\x01\x00".as_slice());
+/// ```
+pub fn first_body<'a>(sections: &[RawSection<'a>], id: u8) -> Option<&'a [u8]>
+    ensures found { IfSome result (λ body. first_body_of id (all_parts_of sections.now) ≡ Some body.now) }
+    ensures missing { IfNone result (first_body_of id (all_parts_of sections.now) ≡ None) }
+{
+    for section in sections {
+        if section.id == id {
+            return Some(section.body);
+        }
+    }
+    None
 }
 
 /// Appends the id of a section and the section's encoding. On error `dst` is unchanged.

@@ -6,12 +6,12 @@ use Rattle.std.specs.Prelude.{IsSomeAnd}
 use Rattle.std.specs.List.{flat_map}
 use Rattle.wasm_codec.specs.formats.Grammar.{Grammar, IsBytes, After, Joined}
 use Rattle.wasm_codec.specs.Reading.{◌>>=◌}
-use Rattle.wasm_codec.specs.Encoding.{IsShortestOrLonger}
+use Rattle.wasm_codec.specs.Encoding.{IsMinimalOrLonger}
 use Rattle.wasm_codec.specs.formats.Numbers.{EncodesU32}
 use Rattle.wasm_codec.specs.Leb128.{complemented, digits_of, unsigned_leb128}
-use Rattle.wasm_codec.proofs.Laws.{bind_some, some, some_is, in_a_row, least_then, IsBytes-after, Shortest-then, Shortest-map, Shortest-for}
+use Rattle.wasm_codec.proofs.Laws.{bind_some, some, some_is, in_a_row, least_then, IsBytes-after, WritesMinimally-then, WritesMinimally-map, WritesMinimally-for}
 use Rattle.wasm_codec.specs.Reading.{BeginsWith}
-use Rattle.wasm_codec.proofs.Joining.{Shortest-joined}
+use Rattle.wasm_codec.proofs.Joining.{WritesMinimally-joined}
 use Rattle.wasm_codec.specs.formats.Grammar.{TakesBytes}
 use Rattle.wasm_codec.proofs.ListReading.{AtMostOne}
 use Rattle.wasm_codec.specs.Places.{Place, place, keeps, byte_at, u32_at}
@@ -38,7 +38,7 @@ Lawful-body {V} {F} r = record {
         subst (λ (t : List ℕ). F.Encodes t v) (sym (one.parts ∙ ap (λ (t : List ℕ). one.prefix ++ t) none ∙ append-nil one.prefix)) one.encodes;
     complete = λ body v s g. ap (λ (t : List ℕ). F.at (place s t)) (sym (append-nil body)) ∙ r.reads.complete body v [] s g;
   };
-  shortest = r.shortest;
+  minimal = r.minimal;
   in_range = r.in_range;
   are_bytes = r.are_bytes;
 }
@@ -47,11 +47,11 @@ pub Lawful-bytes_to_end : IsLawfulBody bytes_to_end
 Lawful-bytes_to_end = record {
   reads = record {
     sound = λ p v q fits e none.
-        let same : p.left ≡ v = ap (λ (x : List ℕ × Place). x.0) (some_is (p.left, place p.shortest []) (v, q) e) in
+        let same : p.left ≡ v = ap (λ (x : List ℕ × Place). x.0) (some_is (p.left, place p.minimal []) (v, q) e) in
         (same, subst IsBytes same fits);
     complete = λ body v s g. rw (g.0, keeps_same s v) refl;
   };
-  shortest = record { encodes = λ v fits. (refl, fits); again = λ bytes v g. (refl, g.1); least = λ bytes v g. inl g.0 };
+  minimal = record { encodes = λ v fits. (refl, fits); again = λ bytes v g. (refl, g.1); least = λ bytes v g. inl g.0 };
   in_range = λ bytes v g. g.1;
   are_bytes = λ bytes v g. rw g.0 g.1;
 }
@@ -110,7 +110,7 @@ until_complete {A} {F} r takes (suc n) body (v ∷ vs) s le g =
     let p : F.at (place s body) ≡ Some (v, place mid g.1) = ap (λ (t : List ℕ). F.at (place s t)) g.2 ∙ r.reads.complete g.0 v g.1 s g.3 in
     let more = until_complete r takes n g.1 vs mid (omega (arith, lt, len, le)) g.4 in
     let k : keeps mid g.1 (flat_map F.bytes vs) ≡ keeps s body (F.bytes v ++ flat_map F.bytes vs) =
-    keeps_then s g.0 g.1 (F.bytes v) (flat_map F.bytes vs) (r.shortest.least g.0 v g.3) ((Shortest-joined r.shortest).least g.1 vs g.4) ∙ ap (λ (f : List ℕ). keeps s f (F.bytes v ++ flat_map F.bytes vs)) (sym g.2) in
+    keeps_then s g.0 g.1 (F.bytes v) (flat_map F.bytes vs) (r.minimal.least g.0 v g.3) ((WritesMinimally-joined r.minimal).least g.1 vs g.4) ∙ ap (λ (f : List ℕ). keeps s f (F.bytes v ++ flat_map F.bytes vs)) (sym g.2) in
     rw (some, p, more, k) refl
 
 pub Lawful-to-end : {A : Type 0} {F : Format A} → IsLawful F → TakesBytes F.Encodes → IsLawfulBody (to_end F)
@@ -119,7 +119,7 @@ Lawful-to-end {A} {F} r takes = record {
     sound = λ p vs q fits e none. until_sound r (length p.left) p vs q fits e;
     complete = λ body vs s g. until_complete r takes (length body) body vs s (omega arith) g;
   };
-  shortest = Shortest-joined r.shortest;
+  minimal = WritesMinimally-joined r.minimal;
   in_range = joined_in_range r;
   are_bytes = joined_bytes r;
 }
@@ -137,7 +137,7 @@ pub record Body (p : Place) (body : List ℕ) (after : Place) : Type 0 where
   pub parts : p.left ≡ (size ++ body) ++ after.left
   pub are_bytes : IsBytes body
 
-taken : (p : Place) (n : ℕ) (mid : Place) → IsBytes p.left → n ≤ length mid.left → BeginsWith EncodesU32 p.left n mid.left → Body p (take n mid.left) (place mid.shortest (drop n mid.left))
+taken : (p : Place) (n : ℕ) (mid : Place) → IsBytes p.left → n ≤ length mid.left → BeginsWith EncodesU32 p.left n mid.left → Body p (take n mid.left) (place mid.minimal (drop n mid.left))
 taken p n mid fits le one =
     let split = take-append-drop n mid.left in
     let len : n ≡ length (take n mid.left) = omega (arith, length-take n mid.left) in
@@ -154,8 +154,8 @@ guard_none false x y e = (refl, some_is x y e)
 
 pub body_sound : (p : Place) (body : List ℕ) (after : Place) → IsBytes p.left → body_at p ≡ Some (body, after) → Body p body after
 body_sound p body after fits e =
-    let s = bind_some (u32_at p) (λ size. cond (ltb (length size.1.left) size.0) None (Some (take size.0 size.1.left, place size.1.shortest (drop size.0 size.1.left)))) (body, after) e in
-    let g = guard_none (ltb (length s.0.1.left) s.0.0) (take s.0.0 s.0.1.left, place s.0.1.shortest (drop s.0.0 s.0.1.left)) (body, after) s.2 in
+    let s = bind_some (u32_at p) (λ size. cond (ltb (length size.1.left) size.0) None (Some (take size.0 size.1.left, place size.1.minimal (drop size.0 size.1.left)))) (body, after) e in
+    let g = guard_none (ltb (length s.0.1.left) s.0.0) (take s.0.0 s.0.1.left, place s.0.1.minimal (drop s.0.0 s.0.1.left)) (body, after) s.2 in
     subst (λ (x : List ℕ × Place). Body p x.0 x.1) g.1 (taken p s.0.0 s.0.1 fits (ltb-false _ _ g.0) (Lawful-u32.reads.sound p s.0.0 s.0.1 fits s.1))
 
 pub body_complete : (size body rest : List ℕ) (s : Bool) → EncodesU32 size (length body) → body_at (place s ((size ++ body) ++ rest)) ≡ Some (body, place (keeps s size (unsigned_leb128 (length body))) rest)
@@ -191,38 +191,38 @@ unsigned_leb128-mono n m = digits_of-mono false 128 9 n m
 -- a shorter body with its size is shorter
 sized_shorter : (size body bytes : List ℕ) → EncodesU32 size (length body) → length bytes < length body → length (unsigned_leb128 (length bytes) ++ bytes) < length (size ++ body)
 sized_shorter size body bytes g lt =
-    let least = not_longer size (unsigned_leb128 (length body)) (Lawful-u32.shortest.least size (length body) g) in
+    let least = not_longer size (unsigned_leb128 (length body)) (Lawful-u32.minimal.least size (length body) g) in
     let fewer = unsigned_leb128-mono (length bytes) (length body) (omega arith) in
     omega (arith, least, fewer, length-append (unsigned_leb128 (length bytes)) bytes, length-append size body)
 
-sized_least : (size body bytes : List ℕ) → EncodesU32 size (length body) → IsShortestOrLonger body bytes → IsShortestOrLonger (size ++ body) (unsigned_leb128 (length bytes) ++ bytes)
-sized_least size body bytes g (inl e) = subst (λ (t : List ℕ). IsShortestOrLonger (size ++ body) (unsigned_leb128 (length t) ++ t)) e (least_then (size ++ body) size body (unsigned_leb128 (length body)) body refl (Lawful-u32.shortest.least size (length body) g) (inl refl))
+sized_least : (size body bytes : List ℕ) → EncodesU32 size (length body) → IsMinimalOrLonger body bytes → IsMinimalOrLonger (size ++ body) (unsigned_leb128 (length bytes) ++ bytes)
+sized_least size body bytes g (inl e) = subst (λ (t : List ℕ). IsMinimalOrLonger (size ++ body) (unsigned_leb128 (length t) ++ t)) e (least_then (size ++ body) size body (unsigned_leb128 (length body)) body refl (Lawful-u32.minimal.least size (length body) g) (inl refl))
 sized_least size body bytes g (inr lt) = inr (sized_shorter size body bytes g lt)
 
--- the size and the body are in their shortest encodings just where the whole is
-keeps_sized : (s : Bool) (size body bytes : List ℕ) → EncodesU32 size (length body) → IsShortestOrLonger body bytes → keeps (keeps s size (unsigned_leb128 (length body))) body bytes ≡ keeps s (size ++ body) (unsigned_leb128 (length bytes) ++ bytes)
+-- the size and the body are in their minimal encodings just where the whole is
+keeps_sized : (s : Bool) (size body bytes : List ℕ) → EncodesU32 size (length body) → IsMinimalOrLonger body bytes → keeps (keeps s size (unsigned_leb128 (length body))) body bytes ≡ keeps s (size ++ body) (unsigned_leb128 (length bytes) ++ bytes)
 keeps_sized s size body bytes g (inl e) =
     subst (λ (t : List ℕ). keeps (keeps s size (unsigned_leb128 (length body))) body t ≡ keeps s (size ++ body) (unsigned_leb128 (length t) ++ t)) e
-    (keeps_then s size body (unsigned_leb128 (length body)) body (Lawful-u32.shortest.least size (length body) g) (inl refl))
+    (keeps_then s size body (unsigned_leb128 (length body)) body (Lawful-u32.minimal.least size (length body) g) (inl refl))
 keeps_sized s size body bytes g (inr lt) =
     keeps_longer (keeps s size (unsigned_leb128 (length body))) body bytes lt ∙ sym (keeps_longer s (size ++ body) (unsigned_leb128 (length bytes) ++ bytes) (sized_shorter size body bytes g lt))
 
 pub Lawful-sized : {A : Type 0} {F : Format A} → IsLawfulBody F → IsLawful (sized F)
 Lawful-sized {A} {F} r = record {
   reads = record { sound = sound; complete = complete };
-  shortest = record { encodes = encodes; again = λ bytes v g. encodes v (in_range bytes v g); least = λ bytes v g. rw g.2 (sized_least g.0 g.1 (F.bytes v) g.3 (r.shortest.least g.1 v g.4)) };
+  minimal = record { encodes = encodes; again = λ bytes v g. encodes v (in_range bytes v g); least = λ bytes v g. rw g.2 (sized_least g.0 g.1 (F.bytes v) g.3 (r.minimal.least g.1 v g.4)) };
   in_range = in_range;
   are_bytes = λ bytes v g. rw g.2 (IsBytes-append g.0 g.1 (Lawful-u32.are_bytes g.0 (length g.1) g.3) (r.are_bytes g.1 v g.4));
   begins = λ bytes v g. rw g.2 (begins_counted g.0 g.1 (Lawful-u32.begins g.0 (length g.1) g.3));
 } where
   sound : (p : Place) (v : A) (q : Place) → IsBytes p.left → sized_at F.at p ≡ Some (v, q) → BeginsWith (Sized F.Encodes) p.left v q.left
   sound p v end fits e =
-      let b = bind_some (body_at p) (λ body. if_all (F.at (place body.1.shortest body.0)) >>= λ x. Some (x.0, place x.1.shortest body.1.left)) (v, end) e in
-      let x = bind_some (if_all (F.at (place b.0.1.shortest b.0.0))) (λ x. Some (x.0, place x.1.shortest b.0.1.left)) (v, end) b.2 in
+      let b = bind_some (body_at p) (λ body. if_all (F.at (place body.1.minimal body.0)) >>= λ x. Some (x.0, place x.1.minimal body.1.left)) (v, end) e in
+      let x = bind_some (if_all (F.at (place b.0.1.minimal b.0.0))) (λ x. Some (x.0, place x.1.minimal b.0.1.left)) (v, end) b.2 in
       let one = body_sound p b.0.0 b.0.1 fits b.1 in
-      let all = all_is (F.at (place b.0.1.shortest b.0.0)) x.0 x.1 in
-      let inside = r.reads.sound (place b.0.1.shortest b.0.0) x.0.0 x.0.1 one.are_bytes all.0 all.1 in
-      BeginsWith-at (Sized F.Encodes) p.left x.0.0 v (place x.0.1.shortest b.0.1.left) end x.2 (record { prefix = one.size ++ b.0.0; encodes = (one.size, b.0.0, refl, one.counts, inside); parts = one.parts })
+      let all = all_is (F.at (place b.0.1.minimal b.0.0)) x.0 x.1 in
+      let inside = r.reads.sound (place b.0.1.minimal b.0.0) x.0.0 x.0.1 one.are_bytes all.0 all.1 in
+      BeginsWith-at (Sized F.Encodes) p.left x.0.0 v (place x.0.1.minimal b.0.1.left) end x.2 (record { prefix = one.size ++ b.0.0; encodes = (one.size, b.0.0, refl, one.counts, inside); parts = one.parts })
 
   complete : (prefix : List ℕ) (v : A) (rest : List ℕ) (s : Bool) → Sized F.Encodes prefix v → sized_at F.at (place s (prefix ++ rest)) ≡ Some (v, place (keeps s prefix (unsigned_leb128 (length (F.bytes v)) ++ F.bytes v)) rest)
   complete prefix v rest s g =
@@ -230,14 +230,14 @@ Lawful-sized {A} {F} r = record {
       let p : body_at (place s (prefix ++ rest)) ≡ Some (g.1, place mid rest) = ap (λ (t : List ℕ). body_at (place s (t ++ rest))) g.2 ∙ body_complete g.0 g.1 rest s g.3 in
       let q = r.reads.complete g.1 v mid g.4 in
       let k : keeps mid g.1 (F.bytes v) ≡ keeps s prefix (unsigned_leb128 (length (F.bytes v)) ++ F.bytes v) =
-      keeps_sized s g.0 g.1 (F.bytes v) g.3 (r.shortest.least g.1 v g.4) ∙ ap (λ (f : List ℕ). keeps s f (unsigned_leb128 (length (F.bytes v)) ++ F.bytes v)) (sym g.2) in
+      keeps_sized s g.0 g.1 (F.bytes v) g.3 (r.minimal.least g.1 v g.4) ∙ ap (λ (f : List ℕ). keeps s f (unsigned_leb128 (length (F.bytes v)) ++ F.bytes v)) (sym g.2) in
       rw (p, q, k) refl
 
   encodes : (v : A) → F.InRange v × (length (F.bytes v) < 2 ^ 32) → Sized F.Encodes (unsigned_leb128 (length (F.bytes v)) ++ F.bytes v) v
-  encodes v fits = (unsigned_leb128 (length (F.bytes v)), F.bytes v, refl, Lawful-u32.shortest.encodes (length (F.bytes v)) fits.1, r.shortest.encodes v fits.0)
+  encodes v fits = (unsigned_leb128 (length (F.bytes v)), F.bytes v, refl, Lawful-u32.minimal.encodes (length (F.bytes v)) fits.1, r.minimal.encodes v fits.0)
 
   in_range : (bytes : List ℕ) (v : A) → Sized F.Encodes bytes v → F.InRange v × (length (F.bytes v) < 2 ^ 32)
-  in_range bytes v g = (r.in_range g.1 v g.4, omega (arith, not_longer g.1 (F.bytes v) (r.shortest.least g.1 v g.4), Lawful-u32.in_range g.0 (length g.1) g.3))
+  in_range bytes v g = (r.in_range g.1 v g.4, omega (arith, not_longer g.1 (F.bytes v) (r.minimal.least g.1 v g.4), Lawful-u32.in_range g.0 (length g.1) g.3))
 
 pub Lawful-byte-list : IsLawful byte_list
 Lawful-byte-list = Lawful-sized Lawful-bytes_to_end
@@ -247,7 +247,7 @@ Lawful-byte-list = Lawful-sized Lawful-bytes_to_end
 pub Lawful-made-body : {A B : Type 0} {F : Format A} (make : A → B) (parts : B → Option A) → ((a : A) → parts (make a) ≡ Some a) → IsLawfulBody F → IsLawfulBody (made make parts F)
 Lawful-made-body {A} {B} {F} make parts inverse r = record {
   reads = record { sound = sound; complete = complete };
-  shortest = Shortest-for (made make parts F).InRange (Shortest-map make (made make parts F).bytes r.shortest (λ a. ap (bytes_of F.bytes) (sym (inverse a)))) (λ b. fits b (parts b));
+  minimal = WritesMinimally-for (made make parts F).InRange (WritesMinimally-map make (made make parts F).bytes r.minimal (λ a. ap (bytes_of F.bytes) (sym (inverse a)))) (λ b. fits b (parts b));
   in_range = λ bytes b g. subst (made make parts F).InRange g.2 (rw (inverse g.0) (r.in_range bytes g.0 g.1, refl));
   are_bytes = λ bytes b g. r.are_bytes bytes g.0 g.1;
 } where
@@ -295,16 +295,16 @@ headed_complete r [] body v s g = rw g.1 (r.reads.complete g.0 v s g.2)
 headed_complete {F = F} r (n ∷ head) body v s g =
     rw (g.1, eq-eqb n n refl, keeps_cons s n n (head ++ g.0) (head ++ F.bytes v)) (headed_complete r head (head ++ g.0) v s (g.0, refl, g.2))
 
-headed_least : (head back bytes : List ℕ) → IsShortestOrLonger back bytes → IsShortestOrLonger (head ++ back) (head ++ bytes)
+headed_least : (head back bytes : List ℕ) → IsMinimalOrLonger back bytes → IsMinimalOrLonger (head ++ back) (head ++ bytes)
 headed_least head back bytes g = least_then (head ++ back) head back head bytes refl (inl refl) g
 
 pub Lawful-headed-body : {A : Type 0} {F : Format A} (head : List ℕ) → IsBytes head → IsLawfulBody F → IsLawfulBody (headed head F)
 Lawful-headed-body {A} {F} head are r = record {
   reads = record { sound = headed_sound r head; complete = headed_complete r head };
-  shortest = record {
-    encodes = λ v fits. (F.bytes v, refl, r.shortest.encodes v fits);
-    again = λ bytes v g. (F.bytes v, refl, r.shortest.again g.0 v g.2);
-    least = λ bytes v g. rw g.1 (headed_least head g.0 (F.bytes v) (r.shortest.least g.0 v g.2));
+  minimal = record {
+    encodes = λ v fits. (F.bytes v, refl, r.minimal.encodes v fits);
+    again = λ bytes v g. (F.bytes v, refl, r.minimal.again g.0 v g.2);
+    least = λ bytes v g. rw g.1 (headed_least head g.0 (F.bytes v) (r.minimal.least g.0 v g.2));
   };
   in_range = λ bytes v g. r.in_range g.0 v g.2;
   are_bytes = λ bytes v g. rw g.1 (IsBytes-append head g.0 are (r.are_bytes g.0 v g.2));
@@ -329,13 +329,13 @@ then_complete {A} {B} {F} {G} r s body v t g =
     let p : F.at (place t body) ≡ Some (v.0, place mid g.1) = ap (λ (l : List ℕ). F.at (place t l)) g.2 ∙ r.reads.complete g.0 v.0 g.1 t g.3 in
     let q : (G v.0).at (place mid g.1) ≡ Some (v.1, place (keeps mid g.1 ((G v.0).bytes v.1)) []) = (s v.0).reads.complete g.1 v.1 mid g.4 in
     let k : keeps mid g.1 ((G v.0).bytes v.1) ≡ keeps t body (F.bytes v.0 ++ (G v.0).bytes v.1) =
-    keeps_then t g.0 g.1 (F.bytes v.0) ((G v.0).bytes v.1) (r.shortest.least g.0 v.0 g.3) ((s v.0).shortest.least g.1 v.1 g.4) ∙ ap (λ (f : List ℕ). keeps t f (F.bytes v.0 ++ (G v.0).bytes v.1)) (sym g.2) in
+    keeps_then t g.0 g.1 (F.bytes v.0) ((G v.0).bytes v.1) (r.minimal.least g.0 v.0 g.3) ((s v.0).minimal.least g.1 v.1 g.4) ∙ ap (λ (f : List ℕ). keeps t f (F.bytes v.0 ++ (G v.0).bytes v.1)) (sym g.2) in
     rw (p, q, k) refl
 
 pub Lawful-then-body : {A B : Type 0} {F : Format A} {G : A → Format B} → IsLawful F → ((a : A) → IsLawfulBody (G a)) → IsLawfulBody (F ⊗> G)
 Lawful-then-body {A} {B} {F} {G} r s = record {
   reads = record { sound = then_sound r s; complete = then_complete r s };
-  shortest = Shortest-then r.shortest (λ a. (s a).shortest);
+  minimal = WritesMinimally-then r.minimal (λ a. (s a).minimal);
   in_range = λ bytes v g. (r.in_range g.0 v.0 g.3, (s v.0).in_range g.1 v.1 g.4);
   are_bytes = λ bytes v g. rw g.2 (IsBytes-append g.0 g.1 (r.are_bytes g.0 v.0 g.3) ((s v.0).are_bytes g.1 v.1 g.4));
 }

@@ -30,7 +30,7 @@ opened old mid size mark e le mark-is =
     let done : mid.done ≡ old.done ++ unsigned_leb128 (length body) = g.written ∙ ap (λ (n : ℕ). old.done ++ unsigned_leb128 n) (sym len) in
     record {
       body = body;
-      after = place mid.place.shortest (drop size mid.place.left);
+      after = place mid.place.minimal (drop size mid.place.left);
       is_read = rw (g.is_read, le-ltb (length mid.place.left) size le) refl;
       within = rw (done, g.rest) refl;
       mark_is = mark-is;
@@ -66,7 +66,7 @@ body_done {A} {F} r old mid end mark size behind bytes o e none =
     let inside : mid.place.left ≡ o.body = ap (λ (m : Rewriting). m.place.left) o.within in
     let body_bytes : IsBytes mid.place.left = subst IsBytes (sym inside) (IsBytes-back whole.size o.body (IsBytes-prefix (whole.size ++ o.body) o.after.left (rw whole.parts at bytes))) in
     let encodes : F.Encodes o.body v = subst (λ (l : List ℕ). F.Encodes l v) inside (r.reads.sound mid.place v end.place body_bytes one.given.is_read none) in
-    let short : length (F.bytes v) ≤ length o.body = not_longer o.body (F.bytes v) (r.shortest.least o.body v encodes) in
+    let short : length (F.bytes v) ≤ length o.body = not_longer o.body (F.bytes v) (r.minimal.least o.body v encodes) in
     let written : end.done ≡ (old.done ++ digits) ++ F.bytes v = one.given.written ∙ ap (λ (m : Rewriting). m.done ++ F.bytes v) o.within ∙ ap (λ (n : ℕ). (old.done ++ unsigned_leb128 n) ++ F.bytes v) (sym o.size_is) in
     let long : length end.done ≡ mark + length digits + length (F.bytes v) = omega (arith, ap (length {A = ℕ}) written, length-append (old.done ++ digits) (F.bytes v), length-append old.done digits, o.mark_is) in
     let front : length (old.done ++ digits) ≡ mark + length digits = omega (arith, length-append old.done digits, o.mark_is) in
@@ -75,12 +75,12 @@ body_done {A} {F} r old mid end mark size behind bytes o e none =
     let last : drop (mark + length digits) end.done ≡ F.bytes v = ap (drop (mark + length digits)) written ∙ drop_at (old.done ++ digits) (F.bytes v) (mark + length digits) front in
     let rest : end.rest ≡ rest_of (o.after.left ++ old.rest.bytes) old.rest.name = one.given.rest ∙ ap (λ (m : Rewriting). m.rest) o.within in
     let count : length end.done - (mark + length digits) ≡ length (F.bytes v) = omega (arith, long) in
-    let read : F.at (place o.after.shortest o.body) ≡ Some (v, end.place) = ap (λ (m : Rewriting). F.at m.place) (sym o.within) ∙ one.given.is_read in
+    let read : F.at (place o.after.minimal o.body) ≡ Some (v, end.place) = ap (λ (m : Rewriting). F.at m.place) (sym o.within) ∙ one.given.is_read in
     let left : take behind end.rest.bytes ≡ o.after.left = ap (λ (t : Rest). take behind t.bytes) rest ∙ take_at o.after.left old.rest.bytes behind (sym o.behind_is) in
     let over : rest_of (drop behind end.rest.bytes) end.rest.name ≡ old.rest = ap (λ (t : Rest). rest_of (drop behind t.bytes) t.name) rest ∙ ap (λ (t : List ℕ). rest_of t old.rest.name) (drop_at o.after.left old.rest.bytes behind (sym o.behind_is)) in
     let after = widened behind (resized mark (length digits) end) in
     let done : after.done ≡ old.done ++ (sized F).bytes v = rw (first, last, count) refl in
-    let there : (sized F).at old.place ≡ Some (v, after.place) = sized_read F old.place o.after end.place o.body v o.is_read read none ∙ ap (λ (l : List ℕ). Some (v, place end.place.shortest l)) (sym left) in
+    let there : (sized F).at old.place ≡ Some (v, after.place) = sized_read F old.place o.after end.place o.body v o.is_read read none ∙ ap (λ (l : List ℕ). Some (v, place end.place.minimal l)) (sym left) in
     record {
       begun = omega (arith, long);
       there = ap (take (length digits)) back ∙ take_at digits (F.bytes v) (length digits) refl;
@@ -110,7 +110,7 @@ joined_given {V} {F} r some start end bytes fits start-is e none =
     record {
       value = all.values;
       encoded = subst (λ (l : List ℕ). Joined F.Encodes l all.values) (ap (λ (s : Rewriting). s.place.left) start-is) all.encodes;
-      is_shortest = all.written ∙ ap (λ (s : Rewriting). s.done ++ flat_map F.bytes all.values) start-is;
+      is_minimal = all.written ∙ ap (λ (s : Rewriting). s.done ++ flat_map F.bytes all.values) start-is;
     }
 
 pub joined_stopped : {V : Type 0} {F : Format V} → IsLawful F → TakesBytes F.Encodes → (bytes : List ℕ) (left : ℕ) → StopsAt F bytes left → IsLongestPrefix (EncodesSome (Joined F.Encodes)) bytes (length bytes - left)

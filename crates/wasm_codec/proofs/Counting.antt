@@ -7,8 +7,8 @@ use Rattle.std.specs.List.{flat_map, AllByRecursion}
 use Rattle.wasm_codec.specs.formats.Grammar.{Grammar, IsBytes, Joined, Counted}
 use Rattle.wasm_codec.specs.Reading.{PlainReader, ◌>>=◌, plain_times_at, plain_counted_at, ReadsPlain, BeginsWith, IsReadBy}
 use Rattle.wasm_codec.proofs.Laws.{bind_some, BeginsWith-is, IsBytes-after, in_a_row, read_in_row, least_then}
-use Rattle.wasm_codec.proofs.Joining.{Shortest-joined}
-use Rattle.wasm_codec.specs.Lawful.{Shortest}
+use Rattle.wasm_codec.proofs.Joining.{WritesMinimally-joined}
+use Rattle.wasm_codec.specs.Lawful.{WritesMinimally}
 
 -- as many items as were asked for
 abbrev Times : {A : Type 0} → Grammar A → ℕ → Grammar (List A)
@@ -95,10 +95,10 @@ items_all {A} read prefix count i bytes total le so_far =
     let one : after_items prefix (plain_times_at read (count - i) bytes) ≡ Some (prefix, bytes) = rw k (ap (λ (vs : List A). Some (vs, bytes)) (append-nil prefix)) in
     sym so_far ∙ one
 
-pub Shortest-counted : {A : Type 0} {Count : Grammar ℕ} {G : Grammar A} {C : ℕ → Type 0} {F : A → Type 0} {count : ℕ → List ℕ} {encoding : A → List ℕ}
-    → Shortest Count C count → Shortest G F encoding → Shortest (Counted Count G) (λ vs. C (length vs) × AllByRecursion F vs) (λ vs. count (length vs) ++ flat_map encoding vs)
-Shortest-counted {count = count} {encoding} r s = record {
-  encodes = λ vs fits. (count (length vs), flat_map encoding vs, refl, r.encodes (length vs) fits.0, (Shortest-joined s).encodes vs fits.1);
-  again = λ bytes vs g. (count (length vs), flat_map encoding vs, refl, r.again g.0 (length vs) g.3, (Shortest-joined s).again g.1 vs g.4);
-  least = λ bytes vs g. least_then bytes g.0 g.1 (count (length vs)) (flat_map encoding vs) g.2 (r.least g.0 (length vs) g.3) ((Shortest-joined s).least g.1 vs g.4);
+pub WritesMinimally-counted : {A : Type 0} {Count : Grammar ℕ} {G : Grammar A} {C : ℕ → Type 0} {F : A → Type 0} {count : ℕ → List ℕ} {encoding : A → List ℕ}
+    → WritesMinimally Count C count → WritesMinimally G F encoding → WritesMinimally (Counted Count G) (λ vs. C (length vs) × AllByRecursion F vs) (λ vs. count (length vs) ++ flat_map encoding vs)
+WritesMinimally-counted {count = count} {encoding} r s = record {
+  encodes = λ vs fits. (count (length vs), flat_map encoding vs, refl, r.encodes (length vs) fits.0, (WritesMinimally-joined s).encodes vs fits.1);
+  again = λ bytes vs g. (count (length vs), flat_map encoding vs, refl, r.again g.0 (length vs) g.3, (WritesMinimally-joined s).again g.1 vs g.4);
+  least = λ bytes vs g. least_then bytes g.0 g.1 (count (length vs)) (flat_map encoding vs) g.2 (r.least g.0 (length vs) g.3) ((WritesMinimally-joined s).least g.1 vs g.4);
 }

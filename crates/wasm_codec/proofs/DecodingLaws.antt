@@ -11,10 +11,10 @@ use Rattle.wasm_codec.specs.formats.Grammar.{Grammar}
 use Rattle.wasm_codec.specs.formats.Combinators.{Format}
 use Rattle.wasm_codec.specs.Lawful.{IsLawfulBody}
 use Rattle.wasm_codec.specs.Outcomes.{as_read, error_of, IsMalformed, IsNormalForm, NeedsNoMemory}
-use Rattle.wasm_codec.specs.Decoding.{IsMinimal, ReadsAll, ChecksAll, RewritesTo, RewritesAll, RewritesInPlace, Decodes, DecodesMinimal, Checks, NormalisesTo, NormalisesInPlace, NormalisesSlice, Normalises}
+use Rattle.wasm_codec.specs.Decoding.{TakesMinimal, ReadsAll, ChecksAll, RewritesTo, RewritesAll, RewritesInPlace, Decodes, DecodesMinimal, Checks, NormalisesTo, NormalisesInPlace, NormalisesSlice, Normalises}
 use Rattle.wasm_codec.proofs.FormatLaws.{not_longer}
 use Rattle.wasm_codec.proofs.BodyLaws.{encodes_one}
-use Rattle.wasm_codec.proofs.ListReading.{gives_all, gives_bytes, gives_same, gives_normal, gives_itself, was_shortest}
+use Rattle.wasm_codec.proofs.ListReading.{gives_all, gives_bytes, gives_same, gives_normal, gives_itself, was_minimal}
 
 abbrev items_of : Vec ℕ → List ℕ
 items_of encoding = encoding.items
@@ -26,7 +26,7 @@ error_is (faults.Malformed m) at is = refl
 
 no_longer : {V : Type 0} {F : Format V} → IsLawfulBody F → (bytes : List ℕ) (result : Result (Vec ℕ) ReadError)
     → IfOk result (λ encoding. IsNormalForm F.Encodes F.bytes bytes encoding.items) → IfOk result (λ encoding. length encoding.items ≤ length bytes)
-no_longer {F = F} r bytes (Ok encoding) n = omega (arith, not_longer bytes (F.bytes n.value) (r.shortest.least bytes n.value n.encoded), ap (length {A = ℕ}) n.is_shortest)
+no_longer {F = F} r bytes (Ok encoding) n = omega (arith, not_longer bytes (F.bytes n.value) (r.minimal.least bytes n.value n.encoded), ap (length {A = ℕ}) n.is_minimal)
 no_longer r bytes (Err e) n = tt
 
 -- what is in a vector whose slice was rewritten, once it is truncated
@@ -41,7 +41,7 @@ module _ {V : Type 0} {F : Format V} (r : IsLawfulBody F) {IsPrefix : List ℕ �
     prefix = reads.prefix;
     unencoded = reads.unencoded;
     one = encodes_one r bytes;
-    shortest = r.shortest.least bytes;
+    minimal = r.minimal.least bytes;
   }
 
   pub normalises_to : {X : Type 0} (encoding : X → List ℕ) (result : Result X ReadError) → RewritesTo F IsPrefix bytes encoding result → NeedsNoMemory result → NormalisesTo F IsPrefix bytes encoding result
@@ -77,7 +77,7 @@ module _ {V : Type 0} {F : Format V} (r : IsLawfulBody F) {IsPrefix : List ℕ �
       let r : RewritesInPlace F IsPrefix old new (Err error) = subst (λ (r : Result ℕ ReadError). RewritesInPlace F IsPrefix old new r) is rewrites in
       normalises_in_place (Err error) (record { given = tt; prefix = rw (← same) r.prefix; unencoded = rw (← same) r.unencoded }) (subst (λ (r : Result ℕ ReadError). NeedsNoMemory r) is memory)
 
-  module _ {Minimal : Grammar V} (is : IsMinimal F Minimal) where
+  module _ {Minimal : Grammar V} (is : TakesMinimal F Minimal) where
     pub decodes_minimal : {X : Type 0} (view : X → V) (result : Result X ReadError) → ReadsAll view Minimal IsPrefix bytes result → DecodesMinimal view F Minimal IsPrefix bytes result
     decodes_minimal view result reads = record {
       given = reads.given;
@@ -85,11 +85,11 @@ module _ {V : Type 0} {F : Format V} (r : IsLawfulBody F) {IsPrefix : List ℕ �
       prefix = reads.prefix;
       unencoded = reads.unencoded;
       one = λ v w g h. encodes_one r bytes v w ((is bytes v).0 g).0 ((is bytes w).0 h).0;
-      shortest = is bytes;
+      minimal = is bytes;
     }
 
     pub checks : (result : Result (Unit {0}) ReadError) → ChecksAll Minimal IsPrefix bytes result → Checks F Minimal IsPrefix bytes result
-    checks result c = record { given = c.given; prefix = c.prefix; unencoded = c.unencoded; shortest = is bytes }
+    checks result c = record { given = c.given; prefix = c.prefix; unencoded = c.unencoded; minimal = is bytes }
 
     -- a copy of the bytes was rewritten, or there was no memory for it
     pub normalises : (result : Result (Vec ℕ) ReadError) → RewritesAll F IsPrefix bytes result → Normalises F Minimal IsPrefix bytes result
@@ -101,10 +101,10 @@ module _ {V : Type 0} {F : Format V} (r : IsLawfulBody F) {IsPrefix : List ℕ �
           prefix = rewrites.prefix;
           unencoded = rewrites.unencoded;
           one = encodes_one r bytes;
-          same = gives_same (encodes_one r) r.shortest items_of bytes result rewrites.given;
-          normal = gives_normal (encodes_one r) r.shortest items_of bytes result rewrites.given;
-          shortest = r.shortest.least bytes;
+          same = gives_same (encodes_one r) r.minimal items_of bytes result rewrites.given;
+          normal = gives_normal (encodes_one r) r.minimal items_of bytes result rewrites.given;
+          minimal = r.minimal.least bytes;
           no_longer = no_longer r bytes result rewrites.given;
           stays = λ v g. let m = (is bytes v).0 g in gives_itself items_of bytes (F.bytes v) result m.1 (all v m.0);
-          was_shortest = was_shortest F.Encodes Minimal F.bytes items_of bytes result (λ v g e. (is bytes v).1 (g, e)) rewrites.given;
+          was_minimal = was_minimal F.Encodes Minimal F.bytes items_of bytes result (λ v g e. (is bytes v).1 (g, e)) rewrites.given;
         }

@@ -14,7 +14,7 @@ abbrev pub DigitsSoFar : ℕ → Place → Place → ℕ → ℕ → ℕ → Typ
 DigitsSoFar most old here i sum power = record {
   within : i ≤ length old.left;
   rest : here.left ≡ drop i old.left;
-  keeps : here.shortest ≡ old.shortest;
+  keeps : here.minimal ≡ old.minimal;
   so_far : reads_on most old.left i ≡ digits_at most old.left;
   value : sum ≡ unsigned (take i old.left);
   unit : power ≡ 128 ^ i;
@@ -59,21 +59,21 @@ two_digits old here new first last high small e f =
 pub short_one : (old new : Place) (b : ℕ) → b < 128 → byte_at old ≡ Some (b, new) → u32_at old ≡ Some (b, new)
 short_one old new b small e =
     let t = byte_took old new b e in
-    u32_one old new b small (ap (λ (l : List ℕ). place old.shortest l) t.bytes ∙ ap (λ (s : Bool). place s (b ∷ new.left)) (sym t.keeps))
+    u32_one old new b small (ap (λ (l : List ℕ). place old.minimal l) t.bytes ∙ ap (λ (s : Bool). place s (b ∷ new.left)) (sym t.keeps))
 
 pub short_two : (old here new : Place) (first last : ℕ) → 128 ≤ first → last < 128 → byte_at old ≡ Some (first, here) → byte_at here ≡ Some (last, new)
-    → u32_at old ≡ Some (first % 128 + last * 128, place (new.shortest && fewest 128 16384 (first % 128 + last * 128)) new.left)
+    → u32_at old ≡ Some (first % 128 + last * 128, place (new.minimal && fewest 128 16384 (first % 128 + last * 128)) new.left)
 short_two old here new first last high small e f =
     u32_is old new (first % 128 + last * 128) 16384 last (two_digits old here new first last high small e f) (omega arith)
 
 pub short_low : (old here new : Place) (first last : ℕ) → 128 ≤ first → last < 64 → byte_at old ≡ Some (first, here) → byte_at here ≡ Some (last, new)
-    → s32_at old ≡ Some (pos (first % 128 + last * 128), place (new.shortest && fewest 64 16384 (first % 128 + last * 128)) new.left)
+    → s32_at old ≡ Some (pos (first % 128 + last * 128), place (new.minimal && fewest 64 16384 (first % 128 + last * 128)) new.left)
 unfolding s32_at
 short_low old here new first last high low e f =
     low_within (2 ^ 31) 5 old new (first % 128 + last * 128) 16384 last (two_digits old here new first last high (omega (arith, low)) e f) (omega arith) low (omega (arith, low))
 
 pub short_high : (old here new : Place) (first last : ℕ) → 128 ≤ first → 64 ≤ last → last < 128 → byte_at old ≡ Some (first, here) → byte_at here ≡ Some (last, new)
-    → s32_at old ≡ Some (pos (first % 128 + last * 128) -ℤ pos 16384, place (new.shortest && fewest 64 16384 (16384 - 1 - (first % 128 + last * 128))) new.left)
+    → s32_at old ≡ Some (pos (first % 128 + last * 128) -ℤ pos 16384, place (new.minimal && fewest 64 16384 (16384 - 1 - (first % 128 + last * 128))) new.left)
 unfolding s32_at
 short_high old here new first last high le small e f =
     high_within (2 ^ 31) 5 old new (first % 128 + last * 128) 16384 last (two_digits old here new first last high small e f) (omega arith) le (omega (arith, le))

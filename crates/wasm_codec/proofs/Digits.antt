@@ -6,7 +6,7 @@ use Rattle.wasm_codec.specs.formats.Grammar.{IsBytes}
 use Rattle.wasm_codec.specs.Reading.{◌>>=◌, BeginsWith, IsReadBy}
 use Rattle.wasm_codec.specs.formats.Numbers.{IsDigits, last, Number}
 use Rattle.wasm_codec.specs.Leb128.{digits_at, plain_number_at, complemented, digits_of}
-use Rattle.wasm_codec.specs.Encoding.{IsShortestOrLonger}
+use Rattle.wasm_codec.specs.Encoding.{IsMinimalOrLonger}
 use Rattle.wasm_codec.specs.Rewriter.{cut}
 use Rattle.wasm_codec.proofs.Laws.{bind_some, some_is}
 
@@ -142,7 +142,7 @@ more-is turn top b c n bytes h =
     let low : n % 128 ≡ complemented turn (b % 128) = omega (arith, t.0) in
     (rw (low, t.1) (omega arith), record { are = h.are.2; ends = h.ends; value = omega (arith, t.0) })
 
-pub digits_least : (turn : Bool) (top : ℕ) → (more : ℕ) (bytes : List ℕ) (n : ℕ) → top ≤ 128 → n < top * 128 ^ more → Stands turn top bytes n → IsShortestOrLonger bytes (digits_of turn top more n)
+pub digits_least : (turn : Bool) (top : ℕ) → (more : ℕ) (bytes : List ℕ) (n : ℕ) → top ≤ 128 → n < top * 128 ^ more → Stands turn top bytes n → IsMinimalOrLonger bytes (digits_of turn top more n)
 unfolding digits_of
 digits_least turn top more [] n wide lt h = absurd h.are
 digits_least turn top zero (b ∷ []) n wide lt h = inl (ap (λ (k : ℕ). k ∷ []) (one-is turn top b n h).1)
@@ -151,7 +151,7 @@ digits_least turn top (suc more) (b ∷ []) n wide lt h =
     let p = one-is turn top b n h in inl (rw (lt-ltb n top p.0) (ap (λ (k : ℕ). k ∷ []) p.1))
 digits_least turn top (suc more) (b ∷ c ∷ bytes) n wide lt h =
     by (digits_least turn top more (c ∷ bytes) (n / 128) wide (less_one top more n lt) (more-is turn top b c n bytes h).1) (ltb n top) where
-      by : IsShortestOrLonger (c ∷ bytes) (digits_of turn top more (n / 128)) → (t : Bool) → IsShortestOrLonger (b ∷ c ∷ bytes) (cond t (complemented turn n ∷ []) ((128 + complemented turn (n % 128)) ∷ digits_of turn top more (n / 128)))
+      by : IsMinimalOrLonger (c ∷ bytes) (digits_of turn top more (n / 128)) → (t : Bool) → IsMinimalOrLonger (b ∷ c ∷ bytes) (cond t (complemented turn n ∷ []) ((128 + complemented turn (n % 128)) ∷ digits_of turn top more (n / 128)))
       by again true = inr (omega arith)
       by (inl p) false = inl (rw (← p, (more-is turn top b c n bytes h).0) refl)
       by (inr p) false = inr (omega arith)

@@ -11,17 +11,17 @@ use Rattle.wasm_codec.specs.formats.Grammar.{Grammar, IsBytes, Mapped, After, Jo
 use Rattle.wasm_codec.specs.Reading.{◌>>=◌}
 use Rattle.wasm_codec.specs.formats.Numbers.{IsDigits, Number, unsigned, signed, EncodesU32, EncodesU64, EncodesS32, EncodesIndex}
 use Rattle.wasm_codec.specs.Leb128.{digits_at, unsigned_leb128, signed_leb128, plain_number_at, plain_u32_at, plain_u64_at, plain_s32_at, plain_index_at, below, signed_within, index_below}
-use Rattle.wasm_codec.specs.Encoding.{IsShortestOrLonger}
-use Rattle.wasm_codec.proofs.Laws.{bind_some, bind_is, some, some_is, in_a_row, IsBytes-after, Shortest-byte, Shortest-nothing, Shortest-never, Shortest-then, Shortest-map, Shortest-for}
+use Rattle.wasm_codec.specs.Encoding.{IsMinimalOrLonger}
+use Rattle.wasm_codec.proofs.Laws.{bind_some, bind_is, some, some_is, in_a_row, IsBytes-after, WritesMinimally-byte, WritesMinimally-nothing, WritesMinimally-never, WritesMinimally-then, WritesMinimally-map, WritesMinimally-for}
 use Rattle.wasm_codec.specs.Reading.{BeginsWith, IsReadBy as ListReads}
-use Rattle.wasm_codec.proofs.NumberLaws.{IsReadBy-u32, Shortest-u32, IsReadBy-u64, Shortest-u64, IsReadBy-s32, Shortest-s32, IsReadBy-index, Shortest-index}
-use Rattle.wasm_codec.proofs.Counting.{Shortest-counted}
-use Rattle.wasm_codec.proofs.Joining.{Shortest-joined}
+use Rattle.wasm_codec.proofs.NumberLaws.{IsReadBy-u32, WritesMinimally-u32, IsReadBy-u64, WritesMinimally-u64, IsReadBy-s32, WritesMinimally-s32, IsReadBy-index, WritesMinimally-index}
+use Rattle.wasm_codec.proofs.Counting.{WritesMinimally-counted}
+use Rattle.wasm_codec.proofs.Joining.{WritesMinimally-joined}
 use Rattle.wasm_codec.specs.formats.Grammar.{TakesBytes}
 use Rattle.wasm_codec.specs.Places.{Place, place, Reader, keeps, unless, byte_at, map_unless, only_at, times_at, number_at, u32_at, u64_at, s32_at, index_at}
 use Rattle.wasm_codec.specs.formats.Combinators.{Format, any_byte, just, a_byte, nothing, never, ◌▷◌, first_of, ◌⊗>◌, ◌⊗◌, bytes_of, made, made_with_long_forms, either_range, Choice, any_of, or_else, no_other, alternative, either, after, after_long, tagged, variant, variant_after, flagged, with_value, optional, choose, is_byte, find, one_byte, byte_or, u32, u64, s32, begins_index, index, items, by_kind}
 use Rattle.wasm_codec.proofs.NumberReading.{byte_took, digits_parts}
-use Rattle.wasm_codec.specs.Lawful.{Shortest, head_of, ReadsPlaces, IsLawful}
+use Rattle.wasm_codec.specs.Lawful.{WritesMinimally, head_of, ReadsPlaces, IsLawful}
 
 -- this holds of each value that is encoded
 pub record Every {V : Type 0} (G : Grammar V) (P : V → Type 0) : Type 0 where
@@ -29,7 +29,7 @@ pub record Every {V : Type 0} (G : Grammar V) (P : V → Type 0) : Type 0 where
 
 -- ---- places
 
-pub not_longer : (bytes encoding : List ℕ) → IsShortestOrLonger bytes encoding → length encoding ≤ length bytes
+pub not_longer : (bytes encoding : List ℕ) → IsMinimalOrLonger bytes encoding → length encoding ≤ length bytes
 not_longer bytes encoding (inl e) = omega (arith, ap (length {A = ℕ}) e)
 not_longer bytes encoding (inr lt) = omega arith
 
@@ -46,8 +46,8 @@ and_and : (s a b : Bool) → (s && a) && b ≡ s && (a && b)
 and_and true a b = refl
 and_and false a b = refl
 
--- both parts are in their shortest encoding just where the whole is
-pub keeps_then : (s : Bool) (f g t u : List ℕ) → IsShortestOrLonger f t → IsShortestOrLonger g u → keeps (keeps s f t) g u ≡ keeps s (f ++ g) (t ++ u)
+-- both parts are in their minimal encoding just where the whole is
+pub keeps_then : (s : Bool) (f g t u : List ℕ) → IsMinimalOrLonger f t → IsMinimalOrLonger g u → keeps (keeps s f t) g u ≡ keeps s (f ++ g) (t ++ u)
 keeps_then s f g t u p q =
     and_and s (eqb (length f) (length t)) (eqb (length g) (length u))
     ∙ ap (λ (b : Bool). s && b) (eqb_sum (length f) (length t) (length g) (length u) (not_longer f t p) (not_longer g u q) ∙ sym (rw (length-append f g, length-append t u) refl))
@@ -68,7 +68,7 @@ keeps_longer s f t lt = ap (λ (b : Bool). s && b) (ne_eqb (length f) (length t)
 abbrev pub IsShorter : Bool → List ℕ → List ℕ → Type 0
 IsShorter long encoding own = elim long [ true ↦ length encoding < length own | false ↦ encoding ≡ own ]
 
-keeps_unless : (s : Bool) (prefix encoding own : List ℕ) (long : Bool) → IsShortestOrLonger prefix own → IsShorter long encoding own → keeps s prefix own && not long ≡ keeps s prefix encoding
+keeps_unless : (s : Bool) (prefix encoding own : List ℕ) (long : Bool) → IsMinimalOrLonger prefix own → IsShorter long encoding own → keeps s prefix own && not long ≡ keeps s prefix encoding
 keeps_unless s prefix encoding own true least h =
     let le = not_longer prefix own least in
     and-false (keeps s prefix own) ∙ sym (keeps_longer s prefix encoding (omega arith))
@@ -80,7 +80,7 @@ pub IsBytes-append : (a b : List ℕ) → IsBytes a → IsBytes b → IsBytes (a
 IsBytes-append [] b p q = q
 IsBytes-append (x ∷ a) b p q = (p.0, IsBytes-append a b p.1 q)
 
-longer_cons : (b : ℕ) (bytes encoding : List ℕ) → IsShortestOrLonger bytes encoding → IsShortestOrLonger (b ∷ bytes) (b ∷ encoding)
+longer_cons : (b : ℕ) (bytes encoding : List ℕ) → IsMinimalOrLonger bytes encoding → IsMinimalOrLonger (b ∷ bytes) (b ∷ encoding)
 longer_cons b bytes encoding (inl e) = inl (ap (λ (t : List ℕ). b ∷ t) e)
 longer_cons b bytes encoding (inr lt) = inr (omega arith)
 
@@ -99,7 +99,7 @@ Lawful-byte = record {
     sound = λ p b q fits e. record { prefix = b ∷ []; encodes = (refl, (taken_fits p q b e fits).0); parts = (byte_took p q b e).bytes };
     complete = λ prefix b rest s g. rw (g.0, keeps_same s (b ∷ [])) refl;
   };
-  shortest = Shortest-byte;
+  minimal = WritesMinimally-byte;
   in_range = λ bytes b g. g.1;
   are_bytes = λ bytes b g. rw g.0 (g.1, tt);
   begins = λ bytes b g. rw g.0 refl;
@@ -111,7 +111,7 @@ Lawful-nothing {A} a = record {
     sound = λ p b q fits e. BeginsWith-at (Nothing a) p.left a b p q e (record { prefix = []; encodes = (refl, refl); parts = refl });
     complete = λ prefix b rest s g. rw (g.0, g.1, keeps_same s []) refl;
   };
-  shortest = Shortest-nothing a (λ b. []) refl;
+  minimal = WritesMinimally-nothing a (λ b. []) refl;
   in_range = λ bytes b g. g.1;
   are_bytes = λ bytes b g. rw g.0 tt;
   begins = λ bytes b g. refl;
@@ -120,7 +120,7 @@ Lawful-nothing {A} a = record {
 pub Lawful-never : {A : Type 0} → IsLawful (never {A = A})
 Lawful-never {A} = record {
   reads = record { sound = λ p v q fits e. absurd cc; complete = λ prefix v rest s g. absurd g };
-  shortest = Shortest-never (λ a. []);
+  minimal = WritesMinimally-never (λ a. []);
   in_range = λ bytes b g. g;
   are_bytes = λ bytes b g. absurd g;
   begins = λ bytes b g. absurd g;
@@ -130,10 +130,10 @@ pub Lawful-after : {A : Type 0} (n : ℕ) {F : Format A} → n < 256 → IsLawfu
 unfolding byte_at
 Lawful-after {A} n {F} byte r = record {
   reads = record { sound = sound; complete = λ prefix v rest s g. rw (g.1, eq-eqb n n refl, keeps_cons s n n g.0 (F.bytes v)) (r.reads.complete g.0 v rest s g.2) };
-  shortest = record {
-    encodes = λ v fits. (F.bytes v, refl, r.shortest.encodes v fits);
-    again = λ bytes v g. (F.bytes v, refl, r.shortest.again g.0 v g.2);
-    least = λ bytes v g. rw g.1 (longer_cons n g.0 (F.bytes v) (r.shortest.least g.0 v g.2));
+  minimal = record {
+    encodes = λ v fits. (F.bytes v, refl, r.minimal.encodes v fits);
+    again = λ bytes v g. (F.bytes v, refl, r.minimal.again g.0 v g.2);
+    least = λ bytes v g. rw g.1 (longer_cons n g.0 (F.bytes v) (r.minimal.least g.0 v g.2));
   };
   in_range = λ bytes v g. r.in_range g.0 v g.2;
   are_bytes = λ bytes v g. rw g.1 (byte, r.are_bytes g.0 v g.2);
@@ -174,14 +174,14 @@ Reads-then {A} {B} {F} {G} r s = record {
       let p : F.at (place t (prefix ++ rest)) ≡ Some (v.0, place mid (back ++ rest)) = read_in_row F.at t prefix g.0 back rest (Some (v.0, place mid (back ++ rest))) g.2 (r.reads.complete g.0 v.0 (back ++ rest) t g.3) in
       let q : (G v.0).at (place mid (back ++ rest)) ≡ Some (v.1, place (keeps mid back ((G v.0).bytes v.1)) rest) = (s v.0).reads.complete back v.1 rest mid g.4 in
       let k : keeps mid back ((G v.0).bytes v.1) ≡ keeps t prefix (F.bytes v.0 ++ (G v.0).bytes v.1) =
-      keeps_then t g.0 back (F.bytes v.0) ((G v.0).bytes v.1) (r.shortest.least g.0 v.0 g.3) ((s v.0).shortest.least back v.1 g.4) ∙ ap (λ (f : List ℕ). keeps t f (F.bytes v.0 ++ (G v.0).bytes v.1)) (sym g.2) in
+      keeps_then t g.0 back (F.bytes v.0) ((G v.0).bytes v.1) (r.minimal.least g.0 v.0 g.3) ((s v.0).minimal.least back v.1 g.4) ∙ ap (λ (f : List ℕ). keeps t f (F.bytes v.0 ++ (G v.0).bytes v.1)) (sym g.2) in
       rw (p, q, k) refl;
 }
 
 pub Lawful-then : {A B : Type 0} {F : Format A} {G : A → Format B} → IsLawful F → ((a : A) → IsLawful (G a)) → IsLawful (F ⊗> G)
 Lawful-then {A} {B} {F} {G} r s = record {
   reads = Reads-then r s;
-  shortest = Shortest-then r.shortest (λ a. (s a).shortest);
+  minimal = WritesMinimally-then r.minimal (λ a. (s a).minimal);
   in_range = λ bytes v g. (r.in_range g.0 v.0 g.3, (s v.0).in_range g.1 v.1 g.4);
   are_bytes = λ bytes v g. rw g.2 (IsBytes-append g.0 g.1 (r.are_bytes g.0 v.0 g.3) ((s v.0).are_bytes g.1 v.1 g.4));
   begins = λ bytes v g. rw g.2 (begins_then F.first g.0 g.1 (r.begins g.0 v.0 g.3));
@@ -201,7 +201,7 @@ Sound-made {A} {B} {F} long make r start b end fits e =
 pub Lawful-made : {A B : Type 0} {F : Format A} (make : A → B) (parts : B → Option A) → ((a : A) → parts (make a) ≡ Some a) → IsLawful F → IsLawful (made make parts F)
 Lawful-made {A} {B} {F} make parts inverse r = record {
   reads = record { sound = sound; complete = complete };
-  shortest = Shortest-for (made make parts F).InRange (Shortest-map make (made make parts F).bytes r.shortest (λ a. ap (bytes_of F.bytes) (sym (inverse a)))) (λ b. fits b (parts b));
+  minimal = WritesMinimally-for (made make parts F).InRange (WritesMinimally-map make (made make parts F).bytes r.minimal (λ a. ap (bytes_of F.bytes) (sym (inverse a)))) (λ b. fits b (parts b));
   in_range = λ bytes b g. subst (made make parts F).InRange g.2 (rw (inverse g.0) (r.in_range bytes g.0 g.1, refl));
   are_bytes = λ bytes b g. r.are_bytes bytes g.0 g.1;
   begins = λ bytes b g. r.begins bytes g.0 g.1;
@@ -221,17 +221,17 @@ Lawful-made {A} {B} {F} make parts inverse r = record {
       let p : parts b ≡ Some g.0 = ap parts (sym g.2) ∙ inverse g.0 in
       rw (r.reads.complete prefix g.0 rest s g.1, p, g.2) refl
 
-pub Lawful-made-as : {A B : Type 0} {F : Format A} (long : A → Bool) (make : A → B) (bytes : B → List ℕ) (R : B → Type 0) → IsLawful F → Shortest (Mapped make F.Encodes) R bytes → ((t : List ℕ) (b : B) → Mapped make F.Encodes t b → R b) → ((prefix : List ℕ) (a : A) → F.Encodes prefix a → IsShorter (long a) (bytes (make a)) (F.bytes a)) → IsLawful (made_with_long_forms long make bytes R F)
+pub Lawful-made-as : {A B : Type 0} {F : Format A} (long : A → Bool) (make : A → B) (bytes : B → List ℕ) (R : B → Type 0) → IsLawful F → WritesMinimally (Mapped make F.Encodes) R bytes → ((t : List ℕ) (b : B) → Mapped make F.Encodes t b → R b) → ((prefix : List ℕ) (a : A) → F.Encodes prefix a → IsShorter (long a) (bytes (make a)) (F.bytes a)) → IsLawful (made_with_long_forms long make bytes R F)
 Lawful-made-as {A} {B} {F} long make bytes R r s fits shorter = record {
   reads = record { sound = Sound-made long make r; complete = complete };
-  shortest = s;
+  minimal = s;
   in_range = fits;
   are_bytes = λ bytes b g. r.are_bytes bytes g.0 g.1;
   begins = λ bytes b g. r.begins bytes g.0 g.1;
 } where
   complete : (prefix : List ℕ) (b : B) (rest : List ℕ) (s : Bool) → Mapped make F.Encodes prefix b → map_unless long make F.at (place s (prefix ++ rest)) ≡ Some (b, place (keeps s prefix (bytes b)) rest)
   complete prefix b rest s g =
-      let k = keeps_unless s prefix (bytes (make g.0)) (F.bytes g.0) (long g.0) (r.shortest.least prefix g.0 g.1) (shorter prefix g.0 g.1) in
+      let k = keeps_unless s prefix (bytes (make g.0)) (F.bytes g.0) (long g.0) (r.minimal.least prefix g.0 g.1) (shorter prefix g.0 g.1) in
       rw (r.reads.complete prefix g.0 rest s g.1, k, g.2) refl
 
 pub Every-made : {A B : Type 0} {G : Grammar A} {make : A → B} {P : B → Type 0} → ((a : A) → P (make a)) → Every (Mapped make G) P
@@ -309,7 +309,7 @@ unfolding byte_at
 Lawful-alternative {A} wins {F} read {C} differ branch left right r s = record {
   lawful = record {
     reads = record { sound = sound; complete = complete };
-    shortest = record { encodes = λ v. encodes v (wins v); again = λ bytes v g. encodes v (wins v) (in_range bytes v g); least = least };
+    minimal = record { encodes = λ v. encodes v (wins v); again = λ bytes v g. encodes v (wins v) (in_range bytes v g); least = least };
     in_range = in_range;
     are_bytes = are_bytes;
     begins = begins;
@@ -336,8 +336,8 @@ Lawful-alternative {A} wins {F} read {C} differ branch left right r s = record {
   complete (b ∷ prefix) v rest t (inr g) = rw (a.other b (s.lawful.are_bytes (b ∷ prefix) v g).0 (s.lawful.begins (b ∷ prefix) v g), right.each (b ∷ prefix) v g) (s.lawful.reads.complete (b ∷ prefix) v rest t g)
 
   encodes : (v : A) (t : Bool) → either_range t (F.InRange v) (C.InRange v) → F.Encodes (cond t (F.bytes v) (C.bytes v)) v ⊎ C.Encodes (cond t (F.bytes v) (C.bytes v)) v
-  encodes v true fits = inl (r.shortest.encodes v fits)
-  encodes v false fits = inr (s.lawful.shortest.encodes v fits)
+  encodes v true fits = inl (r.minimal.encodes v fits)
+  encodes v false fits = inr (s.lawful.minimal.encodes v fits)
 
   in_range : (bytes : List ℕ) (v : A) → (any_of (alternative wins F read C)).Encodes bytes v → either_range (wins v) (F.InRange v) (C.InRange v)
   in_range bytes v (inl g) = by (wins v) refl where
@@ -346,12 +346,12 @@ Lawful-alternative {A} wins {F} read {C} differ branch left right r s = record {
     by false other = (left.each bytes v g other).0
   in_range bytes v (inr g) = rw (right.each bytes v g) (s.lawful.in_range bytes v g)
 
-  least : (bytes : List ℕ) (v : A) → (any_of (alternative wins F read C)).Encodes bytes v → IsShortestOrLonger bytes (cond (wins v) (F.bytes v) (C.bytes v))
+  least : (bytes : List ℕ) (v : A) → (any_of (alternative wins F read C)).Encodes bytes v → IsMinimalOrLonger bytes (cond (wins v) (F.bytes v) (C.bytes v))
   least bytes v (inl g) = by (wins v) refl where
-    by : (t : Bool) → wins v ≡ t → IsShortestOrLonger bytes (cond t (F.bytes v) (C.bytes v))
-    by true is = r.shortest.least bytes v g
+    by : (t : Bool) → wins v ≡ t → IsMinimalOrLonger bytes (cond t (F.bytes v) (C.bytes v))
+    by true is = r.minimal.least bytes v g
     by false other = inr (left.each bytes v g other).1
-  least bytes v (inr g) = rw (right.each bytes v g) (s.lawful.shortest.least bytes v g)
+  least bytes v (inr g) = rw (right.each bytes v g) (s.lawful.minimal.least bytes v g)
 
   are_bytes : (bytes : List ℕ) (v : A) → (any_of (alternative wins F read C)).Encodes bytes v → IsBytes bytes
   are_bytes bytes v (inl g) = r.are_bytes bytes v g
@@ -421,7 +421,7 @@ Lawful-or-after-long {A} wins n {F} {C} byte differ lose other r s = Lawful-alte
 
 pub Lawful-or-else : {A : Type 0} {F : Format A} → not (F.first None) ≡ true → IsLawful F → IsLawfulChoice (or_else F)
 unfolding byte_at
-Lawful-or-else {A} {F} some r = record { lawful = record { reads = record { sound = sound; complete = complete }; shortest = r.shortest; in_range = r.in_range; are_bytes = r.are_bytes; begins = r.begins } } where
+Lawful-or-else {A} {F} some r = record { lawful = record { reads = record { sound = sound; complete = complete }; minimal = r.minimal; in_range = r.in_range; are_bytes = r.are_bytes; begins = r.begins } } where
   sound : (p : Place) (v : A) (q : Place) → IsBytes p.left → (any_of (or_else F)).at p ≡ Some (v, q) → BeginsWith F.Encodes p.left v q.left
   sound p v q fits e = let f = bind_some (byte_at p) (λ first. F.at p) (v, q) e in r.reads.sound p v q fits f.2
 
@@ -501,7 +501,7 @@ pub Lawful-one-byte : {A : Type 0} (byte_of : A → Option ℕ) (values : List A
 unfolding byte_at
 Lawful-one-byte {A} byte_of values there = record {
   reads = record { sound = sound; complete = λ prefix v rest s g. rw (g.2, (at g.0 v g.1).0, g.1, keeps_same s (g.0 ∷ [])) refl };
-  shortest = record {
+  minimal = record {
     encodes = λ v. encodes v (byte_of v) refl;
     again = λ bytes v g. (g.0, g.1, ap (bytes_of (λ b. b ∷ [])) g.1);
     least = λ bytes v g. inl (g.2 ∙ sym (ap (bytes_of (λ b. b ∷ [])) g.1));
@@ -549,12 +549,12 @@ pub Reads-number : {V : Type 0} {most : ℕ} {Means : List ℕ → V → Type 0}
 Reads-number {V} {most} {Means} value bytes r = record { sound = sound; complete = complete } where
   sound : (p : Place) (v : V) (q : Place) → IsBytes p.left → number_at most value bytes p ≡ Some (v, q) → BeginsWith (Number most Means) p.left v q.left
   sound p v q fits e =
-      let d = bind_some (digits_at most p.left) (λ digits. value digits.0 >>= λ v. Some (v, place (keeps p.shortest digits.0 (bytes v)) digits.1)) (v, q) e in
-      let w = bind_some (value d.0.0) (λ v. Some (v, place (keeps p.shortest d.0.0 (bytes v)) d.0.1)) (v, q) d.2 in
+      let d = bind_some (digits_at most p.left) (λ digits. value digits.0 >>= λ v. Some (v, place (keeps p.minimal digits.0 (bytes v)) digits.1)) (v, q) e in
+      let w = bind_some (value d.0.0) (λ v. Some (v, place (keeps p.minimal d.0.0 (bytes v)) d.0.1)) (v, q) d.2 in
       let read : plain_number_at most value p.left ≡ Some (w.0, d.0.1) =
       bind_is (digits_at most p.left) (λ digits. value digits.0 >>= λ v. Some (v, digits.1)) d.0 (Some (w.0, d.0.1)) d.1
       (bind_is (value d.0.0) (λ v. Some (v, d.0.1)) w.0 (Some (w.0, d.0.1)) w.1 refl) in
-      BeginsWith-at (Number most Means) p.left w.0 v (place (keeps p.shortest d.0.0 (bytes w.0)) d.0.1) q w.2 (r.sound p.left w.0 d.0.1 fits read)
+      BeginsWith-at (Number most Means) p.left w.0 v (place (keeps p.minimal d.0.0 (bytes w.0)) d.0.1) q w.2 (r.sound p.left w.0 d.0.1 fits read)
 
   complete : (prefix : List ℕ) (v : V) (rest : List ℕ) (s : Bool) → Number most Means prefix v → number_at most value bytes (place s (prefix ++ rest)) ≡ Some (v, place (keeps s prefix (bytes v)) rest)
   complete prefix v rest s g =
@@ -570,15 +570,15 @@ Reads-number {V} {most} {Means} value bytes r = record { sound = sound; complete
 
 pub Lawful-u32 : IsLawful u32
 unfolding EncodesU32 u32_at plain_u32_at
-Lawful-u32 = record { reads = Reads-number (below (2 ^ 32)) unsigned_leb128 IsReadBy-u32; shortest = Shortest-u32; in_range = λ bytes n g. g.2.1; are_bytes = λ bytes n g. digits_bytes bytes g.0; begins = λ bytes n g. digits_some bytes g.0 }
+Lawful-u32 = record { reads = Reads-number (below (2 ^ 32)) unsigned_leb128 IsReadBy-u32; minimal = WritesMinimally-u32; in_range = λ bytes n g. g.2.1; are_bytes = λ bytes n g. digits_bytes bytes g.0; begins = λ bytes n g. digits_some bytes g.0 }
 
 pub Lawful-u64 : IsLawful u64
 unfolding EncodesU64 u64_at plain_u64_at
-Lawful-u64 = record { reads = Reads-number (below (2 ^ 64)) unsigned_leb128 IsReadBy-u64; shortest = Shortest-u64; in_range = λ bytes n g. g.2.1; are_bytes = λ bytes n g. digits_bytes bytes g.0; begins = λ bytes n g. digits_some bytes g.0 }
+Lawful-u64 = record { reads = Reads-number (below (2 ^ 64)) unsigned_leb128 IsReadBy-u64; minimal = WritesMinimally-u64; in_range = λ bytes n g. g.2.1; are_bytes = λ bytes n g. digits_bytes bytes g.0; begins = λ bytes n g. digits_some bytes g.0 }
 
 pub Lawful-s32 : IsLawful s32
 unfolding EncodesS32 s32_at plain_s32_at
-Lawful-s32 = record { reads = Reads-number (signed_within (2 ^ 31)) signed_leb128 IsReadBy-s32; shortest = Shortest-s32; in_range = λ bytes n g. g.2.1; are_bytes = λ bytes n g. digits_bytes bytes g.0; begins = λ bytes n g. digits_some bytes g.0 }
+Lawful-s32 = record { reads = Reads-number (signed_within (2 ^ 31)) signed_leb128 IsReadBy-s32; minimal = WritesMinimally-s32; in_range = λ bytes n g. g.2.1; are_bytes = λ bytes n g. digits_bytes bytes g.0; begins = λ bytes n g. digits_some bytes g.0 }
 
 index_begins : (bytes : List ℕ) (n : ℕ) → EncodesIndex bytes n → begins_index (head_of bytes) ≡ true
 unfolding EncodesIndex
@@ -596,7 +596,7 @@ index_begins (b ∷ []) n g = elim (cases_lt b 64) [
 
 pub Lawful-index : IsLawful index
 unfolding EncodesIndex index_at plain_index_at
-Lawful-index = record { reads = Reads-number (index_below (2 ^ 32)) (λ n. signed_leb128 (pos n)) IsReadBy-index; shortest = Shortest-index; in_range = λ bytes n g. g.2.1; are_bytes = λ bytes n g. digits_bytes bytes g.0; begins = index_begins }
+Lawful-index = record { reads = Reads-number (index_below (2 ^ 32)) (λ n. signed_leb128 (pos n)) IsReadBy-index; minimal = WritesMinimally-index; in_range = λ bytes n g. g.2.1; are_bytes = λ bytes n g. digits_bytes bytes g.0; begins = index_begins }
 
 -- ---- lists
 
@@ -637,7 +637,7 @@ times_complete {A} {F} r prefix (v ∷ vs) rest s g =
     let mid = keeps s g.0 (F.bytes v) in
     let p : F.at (place s (prefix ++ rest)) ≡ Some (v, place mid (g.1 ++ rest)) = read_in_row F.at s prefix g.0 g.1 rest (Some (v, place mid (g.1 ++ rest))) g.2 (r.reads.complete g.0 v (g.1 ++ rest) s g.3) in
     let k : keeps mid g.1 (flat_map F.bytes vs) ≡ keeps s prefix (F.bytes v ++ flat_map F.bytes vs) =
-    keeps_then s g.0 g.1 (F.bytes v) (flat_map F.bytes vs) (r.shortest.least g.0 v g.3) ((Shortest-joined r.shortest).least g.1 vs g.4) ∙ ap (λ (f : List ℕ). keeps s f (F.bytes v ++ flat_map F.bytes vs)) (sym g.2) in
+    keeps_then s g.0 g.1 (F.bytes v) (flat_map F.bytes vs) (r.minimal.least g.0 v g.3) ((WritesMinimally-joined r.minimal).least g.1 vs g.4) ∙ ap (λ (f : List ℕ). keeps s f (F.bytes v ++ flat_map F.bytes vs)) (sym g.2) in
     rw (p, times_complete r g.1 vs rest mid g.4, k) refl
 
 Reads-items : {A : Type 0} {F : Format A} → IsLawful F → ReadsPlaces (items F).Encodes (items F).bytes (items F).at
@@ -659,13 +659,13 @@ Reads-items {A} {F} r = record { sound = sound; complete = complete } where
       let mid = keeps s g.0 n in
       let p : u32_at (place s (prefix ++ rest)) ≡ Some (length vs, place mid (g.1 ++ rest)) = read_in_row u32_at s prefix g.0 g.1 rest (Some (length vs, place mid (g.1 ++ rest))) g.2 (Lawful-u32.reads.complete g.0 (length vs) (g.1 ++ rest) s g.3) in
       let k : keeps mid g.1 (flat_map F.bytes vs) ≡ keeps s prefix (n ++ flat_map F.bytes vs) =
-      keeps_then s g.0 g.1 n (flat_map F.bytes vs) (Lawful-u32.shortest.least g.0 (length vs) g.3) ((Shortest-joined r.shortest).least g.1 vs g.4) ∙ ap (λ (f : List ℕ). keeps s f (n ++ flat_map F.bytes vs)) (sym g.2) in
+      keeps_then s g.0 g.1 n (flat_map F.bytes vs) (Lawful-u32.minimal.least g.0 (length vs) g.3) ((WritesMinimally-joined r.minimal).least g.1 vs g.4) ∙ ap (λ (f : List ℕ). keeps s f (n ++ flat_map F.bytes vs)) (sym g.2) in
       rw (p, times_complete r g.1 vs rest mid g.4, k) refl
 
 pub Lawful-items : {A : Type 0} {F : Format A} → IsLawful F → IsLawful (items F)
 Lawful-items {A} {F} r = record {
   reads = Reads-items r;
-  shortest = Shortest-counted Shortest-u32 r.shortest;
+  minimal = WritesMinimally-counted WritesMinimally-u32 r.minimal;
   in_range = λ bytes vs g. (Lawful-u32.in_range g.0 (length vs) g.3, joined_in_range r g.1 vs g.4);
   are_bytes = λ bytes vs g. rw g.2 (IsBytes-append g.0 g.1 (Lawful-u32.are_bytes g.0 (length vs) g.3) (joined_bytes r g.1 vs g.4));
   begins = λ bytes vs g. rw g.2 (begins_counted g.0 g.1 (Lawful-u32.begins g.0 (length vs) g.3));

@@ -6,9 +6,9 @@ use Rattle.std.specs.List.{flat_map, AllByRecursion}
 use Rattle.wasm_codec.specs.formats.Grammar.{Grammar, TakesBytes, Joined}
 use Rattle.wasm_codec.specs.Reading.{PlainReader, IsReadBy}
 use Rattle.wasm_codec.specs.Outcomes.{IsLongestPrefix}
-use Rattle.wasm_codec.specs.Encoding.{IsShortestOrLonger}
+use Rattle.wasm_codec.specs.Encoding.{IsMinimalOrLonger}
 use Rattle.wasm_codec.proofs.Laws.{least_then, one_reading}
-use Rattle.wasm_codec.specs.Lawful.{Shortest}
+use Rattle.wasm_codec.specs.Lawful.{WritesMinimally}
 
 -- one more item at the end
 pub Joined-more : {V : Type 0} (G : Grammar V) (bytes : List ℕ) (vs : List V) (last : List ℕ) (v : V) → Joined G bytes vs → G last v → Joined G (bytes ++ last) (vs ++ v ∷ [])
@@ -96,19 +96,19 @@ Joined-longest {V} {G} {read} r some bytes prefix left vs e g none = record {
         absurd (next r s.back after s.more s.encodes more (sym (ap read rest) ∙ none))
   ]
 
--- ---- shortest encodings
+-- ---- minimal encodings
 
-joined_encodes : {A : Type 0} {G : Grammar A} {F : A → Type 0} {encoding : A → List ℕ} → Shortest G F encoding → (vs : List A) → AllByRecursion F vs → Joined G (flat_map encoding vs) vs
+joined_encodes : {A : Type 0} {G : Grammar A} {F : A → Type 0} {encoding : A → List ℕ} → WritesMinimally G F encoding → (vs : List A) → AllByRecursion F vs → Joined G (flat_map encoding vs) vs
 joined_encodes r [] fits = refl
 joined_encodes {encoding = encoding} r (v ∷ vs) fits = (encoding v, flat_map encoding vs, refl, r.encodes v fits.0, joined_encodes r vs fits.1)
 
-joined_again : {A : Type 0} {G : Grammar A} {F : A → Type 0} {encoding : A → List ℕ} → Shortest G F encoding → (bytes : List ℕ) (vs : List A) → Joined G bytes vs → Joined G (flat_map encoding vs) vs
+joined_again : {A : Type 0} {G : Grammar A} {F : A → Type 0} {encoding : A → List ℕ} → WritesMinimally G F encoding → (bytes : List ℕ) (vs : List A) → Joined G bytes vs → Joined G (flat_map encoding vs) vs
 joined_again r bytes [] g = refl
 joined_again {encoding = encoding} r bytes (v ∷ vs) g = (encoding v, flat_map encoding vs, refl, r.again g.0 v g.3, joined_again r g.1 vs g.4)
 
-joined_least : {A : Type 0} {G : Grammar A} {F : A → Type 0} {encoding : A → List ℕ} → Shortest G F encoding → (bytes : List ℕ) (vs : List A) → Joined G bytes vs → IsShortestOrLonger bytes (flat_map encoding vs)
+joined_least : {A : Type 0} {G : Grammar A} {F : A → Type 0} {encoding : A → List ℕ} → WritesMinimally G F encoding → (bytes : List ℕ) (vs : List A) → Joined G bytes vs → IsMinimalOrLonger bytes (flat_map encoding vs)
 joined_least r bytes [] g = inl g
 joined_least {encoding = encoding} r bytes (v ∷ vs) g = least_then bytes g.0 g.1 (encoding v) (flat_map encoding vs) g.2 (r.least g.0 v g.3) (joined_least r g.1 vs g.4)
 
-pub Shortest-joined : {A : Type 0} {G : Grammar A} {F : A → Type 0} {encoding : A → List ℕ} → Shortest G F encoding → Shortest (Joined G) (AllByRecursion F) (flat_map encoding)
-Shortest-joined r = record { encodes = joined_encodes r; again = joined_again r; least = joined_least r }
+pub WritesMinimally-joined : {A : Type 0} {G : Grammar A} {F : A → Type 0} {encoding : A → List ℕ} → WritesMinimally G F encoding → WritesMinimally (Joined G) (AllByRecursion F) (flat_map encoding)
+WritesMinimally-joined r = record { encodes = joined_encodes r; again = joined_again r; least = joined_least r }

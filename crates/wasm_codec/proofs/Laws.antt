@@ -2,8 +2,8 @@
 use Rattle.std.proofs.Common.{◌≡◌, ℕ, ◌<◌, List, [], ◌∷◌, ◌++◌, Option, Some, None, refl, sym, ap, subst, ◌∙◌, append_assoc, length-append, inl, inr, arith}
 use Rattle.std.proofs.lemmas.List.{append_cancel_right}
 use Rattle.wasm_codec.specs.formats.Grammar.{Grammar, IsBytes, AByte, Then, Mapped, Nothing, Never}
-use Rattle.wasm_codec.specs.Encoding.{IsShortestOrLonger}
-use Rattle.wasm_codec.specs.Lawful.{Shortest}
+use Rattle.wasm_codec.specs.Encoding.{IsMinimalOrLonger}
+use Rattle.wasm_codec.specs.Lawful.{WritesMinimally}
 use Rattle.wasm_codec.specs.Reading.{PlainReader, BeginsWith, IsReadBy, ◌>>=◌}
 
 -- ---- options
@@ -55,18 +55,18 @@ one_reading {V} {G} {read} r a b x y v w g h e =
 pub BeginsWith-is : {V : Type 0} (G : Grammar V) (bytes : List ℕ) (a v : V) (after rest : List ℕ) → some {A = V × List ℕ} (a, after) ≡ some (v, rest) → BeginsWith G bytes a after → BeginsWith G bytes v rest
 BeginsWith-is {V} G bytes a v after rest e h = subst (λ (x : V × List ℕ). BeginsWith G bytes x.0 x.1) (some_is (a, after) (v, rest) e) h
 
--- ---- Shortest
+-- ---- Minimal
 
--- two shortest encodings in a row are the shortest of both
-pub least_then : (bytes prefix back x y : List ℕ) → bytes ≡ prefix ++ back → IsShortestOrLonger prefix x → IsShortestOrLonger back y → IsShortestOrLonger bytes (x ++ y)
+-- two minimal encodings in a row are the minimal of both
+pub least_then : (bytes prefix back x y : List ℕ) → bytes ≡ prefix ++ back → IsMinimalOrLonger prefix x → IsMinimalOrLonger back y → IsMinimalOrLonger bytes (x ++ y)
 least_then bytes prefix back x y e (inl p) (inl q) = inl (rw (e, p, q) refl)
 least_then bytes prefix back x y e (inl p) (inr q) = inr (rw (e, p) (omega (arith, length-append x y, length-append x back)))
 least_then bytes prefix back x y e (inr p) (inl q) = inr (rw (e, q) (omega (arith, length-append x y, length-append prefix y)))
 least_then bytes prefix back x y e (inr p) (inr q) = inr (rw e (omega (arith, length-append x y, length-append prefix back)))
 
-pub Shortest-then : {A B : Type 0} {G : Grammar A} {H : A → Grammar B} {F : A → Type 0} {E : A → B → Type 0} {encoding : A → List ℕ} {more : A → B → List ℕ}
-    → Shortest G F encoding → ((a : A) → Shortest (H a) (E a) (more a)) → Shortest (Then G H) (λ v. F v.0 × E v.0 v.1) (λ v. encoding v.0 ++ more v.0 v.1)
-Shortest-then {encoding = encoding} {more} r s = record {
+pub WritesMinimally-then : {A B : Type 0} {G : Grammar A} {H : A → Grammar B} {F : A → Type 0} {E : A → B → Type 0} {encoding : A → List ℕ} {more : A → B → List ℕ}
+    → WritesMinimally G F encoding → ((a : A) → WritesMinimally (H a) (E a) (more a)) → WritesMinimally (Then G H) (λ v. F v.0 × E v.0 v.1) (λ v. encoding v.0 ++ more v.0 v.1)
+WritesMinimally-then {encoding = encoding} {more} r s = record {
   encodes = λ v fits. (encoding v.0, more v.0 v.1, refl, r.encodes v.0 fits.0, (s v.0).encodes v.1 fits.1);
   again = λ bytes v g. (encoding v.0, more v.0 v.1, refl, r.again g.0 v.0 g.3, (s v.0).again g.1 v.1 g.4);
   least = λ bytes v g. least_then bytes g.0 g.1 (encoding v.0) (more v.0 v.1) g.2 (r.least g.0 v.0 g.3) ((s v.0).least g.1 v.1 g.4);
@@ -76,33 +76,33 @@ Shortest-then {encoding = encoding} {more} r s = record {
 abbrev pub MadeOf : {A B : Type 0} → (A → B) → (A → Type 0) → B → Type 0
 MadeOf make F b = (a : _) × F a × (make a ≡ b)
 
--- along a map that the shortest encoding of the whole sees through
-pub Shortest-map : {A B : Type 0} {G : Grammar A} {F : A → Type 0} {encoding : A → List ℕ} (make : A → B) (other : B → List ℕ) → Shortest G F encoding → ((a : A) → encoding a ≡ other (make a)) → Shortest (Mapped make G) (MadeOf make F) other
-Shortest-map {G = G} {encoding = encoding} make other r same = record {
+-- along a map that the minimal encoding of the whole sees through
+pub WritesMinimally-map : {A B : Type 0} {G : Grammar A} {F : A → Type 0} {encoding : A → List ℕ} (make : A → B) (other : B → List ℕ) → WritesMinimally G F encoding → ((a : A) → encoding a ≡ other (make a)) → WritesMinimally (Mapped make G) (MadeOf make F) other
+WritesMinimally-map {G = G} {encoding = encoding} make other r same = record {
   encodes = λ b fits. (fits.0, subst (λ (t : List ℕ). G t fits.0) (same fits.0 ∙ ap other fits.2) (r.encodes fits.0 fits.1), fits.2);
   again = λ bytes b g. (g.0, subst (λ (t : List ℕ). G t g.0) (same g.0 ∙ ap other g.2) (r.again bytes g.0 g.1), g.2);
-  least = λ bytes b g. subst (λ (t : List ℕ). IsShortestOrLonger bytes t) (same g.0 ∙ ap other g.2) (r.least bytes g.0 g.1);
+  least = λ bytes b g. subst (λ (t : List ℕ). IsMinimalOrLonger bytes t) (same g.0 ∙ ap other g.2) (r.least bytes g.0 g.1);
 }
 
--- no bytes, for a value whose shortest encoding is empty
-pub Shortest-nothing : {A : Type 0} (a : A) (encoding : A → List ℕ) → encoding a ≡ [] → Shortest (Nothing a) (λ b. a ≡ b) encoding
-Shortest-nothing a encoding empty = record {
+-- no bytes, for a value whose minimal encoding is empty
+pub WritesMinimally-nothing : {A : Type 0} (a : A) (encoding : A → List ℕ) → encoding a ≡ [] → WritesMinimally (Nothing a) (λ b. a ≡ b) encoding
+WritesMinimally-nothing a encoding empty = record {
   encodes = λ b e. (sym (ap encoding e) ∙ empty, e);
   again = λ bytes b g. (sym (ap encoding g.1) ∙ empty, g.1);
   least = λ bytes b g. inl (g.0 ∙ sym empty ∙ ap encoding g.1);
 }
 
-pub Shortest-never : {A : Type 0} (encoding : A → List ℕ) → Shortest (Never {A = A}) (λ a. ⊥) encoding
-Shortest-never encoding = record { encodes = λ v fits. absurd fits; again = λ bytes v g. absurd g; least = λ bytes v g. absurd g }
+pub WritesMinimally-never : {A : Type 0} (encoding : A → List ℕ) → WritesMinimally (Never {A = A}) (λ a. ⊥) encoding
+WritesMinimally-never encoding = record { encodes = λ v fits. absurd fits; again = λ bytes v g. absurd g; least = λ bytes v g. absurd g }
 
--- a stronger condition, and the same shortest encodings
-pub Shortest-for : {A : Type 0} {G : Grammar A} {F : A → Type 0} {encoding : A → List ℕ} (E : A → Type 0) → Shortest G F encoding → ((a : A) → E a → F a) → Shortest G E encoding
-Shortest-for E r fits = record { encodes = λ v e. r.encodes v (fits v e); again = r.again; least = r.least }
+-- a stronger condition, and the same minimal encodings
+pub WritesMinimally-for : {A : Type 0} {G : Grammar A} {F : A → Type 0} {encoding : A → List ℕ} (E : A → Type 0) → WritesMinimally G F encoding → ((a : A) → E a → F a) → WritesMinimally G E encoding
+WritesMinimally-for E r fits = record { encodes = λ v e. r.encodes v (fits v e); again = r.again; least = r.least }
 
 -- ---- one byte
 
-pub Shortest-byte : Shortest AByte (λ b. b < 256) (λ b. b ∷ [])
-Shortest-byte = record {
+pub WritesMinimally-byte : WritesMinimally AByte (λ b. b < 256) (λ b. b ∷ [])
+WritesMinimally-byte = record {
   encodes = λ b lt. (refl, lt);
   again = λ bytes b g. (refl, g.1);
   least = λ bytes b g. inl g.0;

@@ -8,7 +8,7 @@ use Rattle.wasm_codec.specs.declared.reader.ReadError.TheVariants as errors
 use Rattle.wasm_codec.specs.Outcomes.{IsOrMemory, IfRefused, IsLongestPrefix, EncodesSome, IsNormalForm}
 use Rattle.wasm_codec.proofs.Laws.{IsBytes-back}
 use Rattle.wasm_codec.proofs.Joining.{Joined-more, Joined-longest}
-use Rattle.wasm_codec.specs.Lawful.{Shortest}
+use Rattle.wasm_codec.specs.Lawful.{WritesMinimally}
 
 pub IsBytes-from : (bytes : List ℕ) → ((i : ℕ) → get_or bytes i 0 < 256) → IsBytes bytes
 IsBytes-from [] h = tt
@@ -89,41 +89,41 @@ gives_all one view bytes (Ok x) given none v g = one bytes (view x) v given g
 gives_all one view bytes (Err errors.Memory) given none v g = tt
 gives_all one view bytes (Err (errors.Refused at)) given none v g = none v g
 
--- the shortest encoding of what is encoded is given
+-- the minimal encoding of what is encoded is given
 pub gives_bytes : {X V : Type 0} {G : Grammar V} → AtMostOne G → (encoding_of : V → List ℕ) (view : X → List ℕ) (bytes : List ℕ) (result : Result X ReadError)
     → IfOk result (λ x. IsNormalForm G encoding_of bytes (view x)) → IfRefusedNone G bytes result → (v : V) → G bytes v → IsOrMemory view (encoding_of v) result
-gives_bytes one encoding_of view bytes (Ok x) given none v g = given.is_shortest ∙ ap encoding_of (one bytes given.value v given.encoded g)
+gives_bytes one encoding_of view bytes (Ok x) given none v g = given.is_minimal ∙ ap encoding_of (one bytes given.value v given.encoded g)
 gives_bytes one encoding_of view bytes (Err errors.Memory) given none v g = tt
 gives_bytes one encoding_of view bytes (Err (errors.Refused at)) given none v g = none v g
 
 -- a normal form of the bytes encodes what they encode
-same_values : {V : Type 0} {G : Grammar V} {F : V → Type 0} {encoding_of : V → List ℕ} → AtMostOne G → Shortest G F encoding_of → (bytes encoding : List ℕ) → IsNormalForm G encoding_of bytes encoding → (w : V) → G encoding w ↔ G bytes w
+same_values : {V : Type 0} {G : Grammar V} {F : V → Type 0} {encoding_of : V → List ℕ} → AtMostOne G → WritesMinimally G F encoding_of → (bytes encoding : List ℕ) → IsNormalForm G encoding_of bytes encoding → (w : V) → G encoding w ↔ G bytes w
 same_values {V} {G} one s bytes encoding n w =
-    let h : G encoding n.value = subst (λ (t : List ℕ). G t n.value) (sym n.is_shortest) (s.again bytes n.value n.encoded) in
+    let h : G encoding n.value = subst (λ (t : List ℕ). G t n.value) (sym n.is_minimal) (s.again bytes n.value n.encoded) in
     (λ k. subst (G bytes) (one encoding n.value w h k) n.encoded, λ k. subst (G encoding) (one bytes n.value w n.encoded k) h)
 
--- and is the shortest encoding of it
-is_normal : {V : Type 0} {G : Grammar V} {F : V → Type 0} {encoding_of : V → List ℕ} → AtMostOne G → Shortest G F encoding_of → (bytes encoding : List ℕ) → IsNormalForm G encoding_of bytes encoding → (w : V) → G encoding w → encoding ≡ encoding_of w
+-- and is the minimal encoding of it
+is_normal : {V : Type 0} {G : Grammar V} {F : V → Type 0} {encoding_of : V → List ℕ} → AtMostOne G → WritesMinimally G F encoding_of → (bytes encoding : List ℕ) → IsNormalForm G encoding_of bytes encoding → (w : V) → G encoding w → encoding ≡ encoding_of w
 is_normal {V} {G} {encoding_of = encoding_of} one s bytes encoding n w k =
-    let h : G encoding n.value = subst (λ (t : List ℕ). G t n.value) (sym n.is_shortest) (s.again bytes n.value n.encoded) in
-    n.is_shortest ∙ ap encoding_of (one encoding n.value w h k)
+    let h : G encoding n.value = subst (λ (t : List ℕ). G t n.value) (sym n.is_minimal) (s.again bytes n.value n.encoded) in
+    n.is_minimal ∙ ap encoding_of (one encoding n.value w h k)
 
-pub gives_same : {X V : Type 0} {G : Grammar V} {F : V → Type 0} {encoding_of : V → List ℕ} → AtMostOne G → Shortest G F encoding_of → (view : X → List ℕ) (bytes : List ℕ) (result : Result X ReadError)
+pub gives_same : {X V : Type 0} {G : Grammar V} {F : V → Type 0} {encoding_of : V → List ℕ} → AtMostOne G → WritesMinimally G F encoding_of → (view : X → List ℕ) (bytes : List ℕ) (result : Result X ReadError)
     → IfOk result (λ x. IsNormalForm G encoding_of bytes (view x)) → IfOk result (λ x. (w : V) → G (view x) w ↔ G bytes w)
 gives_same one s view bytes (Ok x) given = same_values one s bytes (view x) given
 gives_same one s view bytes (Err e) given = tt
 
-pub gives_normal : {X V : Type 0} {G : Grammar V} {F : V → Type 0} {encoding_of : V → List ℕ} → AtMostOne G → Shortest G F encoding_of → (view : X → List ℕ) (bytes : List ℕ) (result : Result X ReadError)
+pub gives_normal : {X V : Type 0} {G : Grammar V} {F : V → Type 0} {encoding_of : V → List ℕ} → AtMostOne G → WritesMinimally G F encoding_of → (view : X → List ℕ) (bytes : List ℕ) (result : Result X ReadError)
     → IfOk result (λ x. IsNormalForm G encoding_of bytes (view x)) → IfOk result (λ x. (w : V) → G (view x) w → view x ≡ encoding_of w)
 gives_normal one s view bytes (Ok x) given = is_normal one s bytes (view x) given
 gives_normal one s view bytes (Err e) given = tt
 
--- a shortest encoding is given as it is
+-- a minimal encoding is given as it is
 pub gives_itself : {X : Type 0} (view : X → List ℕ) (bytes encoding : List ℕ) (result : Result X ReadError) → bytes ≡ encoding → IsOrMemory view encoding result → IsOrMemory view bytes result
 gives_itself view bytes encoding result e given = subst (λ (t : List ℕ). IsOrMemory view t result) (sym e) given
 
--- what is given as it is, is a shortest encoding
-pub was_shortest : {X V : Type 0} (G S : Grammar V) (encoding_of : V → List ℕ) (view : X → List ℕ) (bytes : List ℕ) (result : Result X ReadError) → ((v : V) → G bytes v → bytes ≡ encoding_of v → S bytes v)
+-- what is given as it is, is a minimal encoding
+pub was_minimal : {X V : Type 0} (G S : Grammar V) (encoding_of : V → List ℕ) (view : X → List ℕ) (bytes : List ℕ) (result : Result X ReadError) → ((v : V) → G bytes v → bytes ≡ encoding_of v → S bytes v)
     → IfOk result (λ x. IsNormalForm G encoding_of bytes (view x)) → IfOk result (λ x. view x ≡ bytes → EncodesSome S bytes)
-was_shortest G S encoding_of view bytes (Ok x) is given = λ e. (given.value, is given.value given.encoded (sym e ∙ given.is_shortest))
-was_shortest G S encoding_of view bytes (Err e) is given = tt
+was_minimal G S encoding_of view bytes (Ok x) is given = λ e. (given.value, is given.value given.encoded (sym e ∙ given.is_minimal))
+was_minimal G S encoding_of view bytes (Err e) is given = tt

@@ -103,5 +103,5 @@ list_given {V} F bytes here count i w full none =
     record {
       value = w.values;
       encoded = whole_given bytes here.place.left w.values a.finds (all_read bytes here.place.left count i w.values w.gone (omega (arith, full))) none;
-      is_shortest = w.written ∙ ap (λ (n : ℕ). unsigned_leb128 n ++ flat_map F.bytes w.values) (sym (w.gone.len ∙ full));
+      is_minimal = w.written ∙ ap (λ (n : ℕ). unsigned_leb128 n ++ flat_map F.bytes w.values) (sym (w.gone.len ∙ full));
     }

@@ -5,11 +5,11 @@ use Rattle.std.proofs.lemmas.Int.{ints}
 use Rattle.wasm_codec.specs.formats.Numbers.{IsDigits, unsigned, last, signed, Number, Below, Within, SignedWithin, IndexBelow, EncodesU32, EncodesU64, EncodesS32, EncodesS64, EncodesIndex}
 use Rattle.wasm_codec.specs.Leb128.{digits_of, unsigned_leb128, signed_leb128, plain_number_at, below, is_within, signed_within, index_from, index_below, plain_u32_at, plain_u64_at, plain_s32_at, plain_s64_at, plain_index_at}
 use Rattle.wasm_codec.specs.formats.Grammar.{Grammar}
-use Rattle.wasm_codec.specs.Encoding.{IsShortestOrLonger, IsShortest}
+use Rattle.wasm_codec.specs.Encoding.{IsMinimalOrLonger, IsMinimal}
 use Rattle.wasm_codec.specs.Reading.{IsReadBy}
 use Rattle.wasm_codec.proofs.Laws.{some_is}
 use Rattle.wasm_codec.proofs.Digits.{IsReadBy-number, magnitude, Stands, digits_stand, digits_least, digits_cut, length-digits_of}
-use Rattle.wasm_codec.specs.Lawful.{Shortest}
+use Rattle.wasm_codec.specs.Lawful.{WritesMinimally}
 use Rattle.wasm_codec.specs.Rewriter.{cut}
 
 -- ---- reading
@@ -61,7 +61,7 @@ index_finds limit digits n d m = rw (m.0, lt-ltb n limit m.1) refl
 IsReadBy-index-below : (most limit : ℕ) → IsReadBy (Number most (IndexBelow limit)) (plain_number_at most (index_below limit))
 IsReadBy-index-below most limit = IsReadBy-number most (IndexBelow limit) (index_below limit) (index_means limit) (index_finds limit)
 
--- ---- shortest encodings of unsigned numbers
+-- ---- minimal encodings of unsigned numbers
 
 pub magnitude-unsigned : (digits : List ℕ) → magnitude false digits ≡ unsigned digits
 unfolding magnitude
@@ -73,9 +73,9 @@ last_below [] d = absurd d
 last_below (b ∷ []) d = d
 last_below (b ∷ c ∷ digits) d = last_below (c ∷ digits) d.2
 
-Shortest-unsigned : (more limit : ℕ) → limit ≤ 128 * 128 ^ more → limit ≤ 128 * 128 ^ 9 → Shortest (Number (suc more) (Below limit)) (λ n. n < limit) unsigned_leb128
+WritesMinimally-unsigned : (more limit : ℕ) → limit ≤ 128 * 128 ^ more → limit ≤ 128 * 128 ^ 9 → WritesMinimally (Number (suc more) (Below limit)) (λ n. n < limit) unsigned_leb128
 unfolding unsigned_leb128
-Shortest-unsigned more limit wide room = record {
+WritesMinimally-unsigned more limit wide room = record {
   encodes = encodes;
   again = λ bytes n g. encodes n g.2.1;
   least = λ bytes n g.
@@ -86,7 +86,7 @@ Shortest-unsigned more limit wide room = record {
       let p = digits_stand false 128 (omega arith) 9 n (omega arith) in
       (p.are, length-digits_of false 128 9 more n (omega arith), (sym (magnitude-unsigned _) ∙ p.value, lt))
 
--- ---- shortest encodings of signed numbers
+-- ---- minimal encodings of signed numbers
 
 -- a digit and the same digit complemented are 127
 both : (digits : List ℕ) → magnitude true digits + unsigned digits + 1 ≡ 128 ^ length digits
@@ -133,13 +133,13 @@ unfolding signed_leb128
 length-signed_leb128 more limit wide (pos n) lt = length-digits_of false 64 9 more n (omega arith)
 length-signed_leb128 more limit wide (negsuc n) lt = length-digits_of true 64 9 more n (omega arith)
 
-signed_leb128-least : (limit : ℕ) → limit ≤ 64 * 128 ^ 9 → (bytes : List ℕ) (z : ℤ) → Within limit z → SignedStands bytes z → IsShortestOrLonger bytes (signed_leb128 z)
+signed_leb128-least : (limit : ℕ) → limit ≤ 64 * 128 ^ 9 → (bytes : List ℕ) (z : ℤ) → Within limit z → SignedStands bytes z → IsMinimalOrLonger bytes (signed_leb128 z)
 unfolding signed_leb128 SignedStands
 signed_leb128-least limit room bytes (pos n) lt h = digits_least false 64 9 bytes n (omega arith) (omega arith) h
 signed_leb128-least limit room bytes (negsuc n) lt h = digits_least true 64 9 bytes n (omega arith) (omega arith) h
 
-Shortest-signed : (more limit : ℕ) → limit ≤ 64 * 128 ^ more → limit ≤ 64 * 128 ^ 9 → Shortest (Number (suc more) (SignedWithin limit)) (Within limit) signed_leb128
-Shortest-signed more limit wide room = record {
+WritesMinimally-signed : (more limit : ℕ) → limit ≤ 64 * 128 ^ more → limit ≤ 64 * 128 ^ 9 → WritesMinimally (Number (suc more) (SignedWithin limit)) (Within limit) signed_leb128
+WritesMinimally-signed more limit wide room = record {
   encodes = encodes;
   again = λ bytes z g. encodes z g.2.1;
   least = λ bytes z g. signed_leb128-least limit room bytes z g.2.1 (signed_to bytes g.0 z g.2.0);
@@ -147,8 +147,8 @@ Shortest-signed more limit wide room = record {
   encodes : (z : ℤ) → Within limit z → Number (suc more) (SignedWithin limit) (signed_leb128 z) z
   encodes z lt = let p = signed_leb128_stands limit room z lt in (p.0, length-signed_leb128 more limit wide z lt, (signed_from (signed_leb128 z) z p.1, lt))
 
-Shortest-index-below : (more limit : ℕ) → limit ≤ 64 * 128 ^ more → limit ≤ 64 * 128 ^ 9 → Shortest (Number (suc more) (IndexBelow limit)) (λ n. n < limit) (λ n. signed_leb128 (pos n))
-Shortest-index-below more limit wide room = record {
+WritesMinimally-index-below : (more limit : ℕ) → limit ≤ 64 * 128 ^ more → limit ≤ 64 * 128 ^ 9 → WritesMinimally (Number (suc more) (IndexBelow limit)) (λ n. n < limit) (λ n. signed_leb128 (pos n))
+WritesMinimally-index-below more limit wide room = record {
   encodes = encodes;
   again = λ bytes n g. encodes n g.2.1;
   least = λ bytes n g. signed_leb128-least limit room bytes (pos n) g.2.1 (signed_to bytes g.0 (pos n) g.2.0);
@@ -171,7 +171,7 @@ cut_stands limit room bytes (negsuc n) lt h = digits_cut true 64 9 bytes n (omeg
 cut_signed : (most limit : ℕ) → limit ≤ 64 * 128 ^ 9 → (bytes : List ℕ) (z : ℤ) → Number most (SignedWithin limit) bytes z → cut (length (signed_leb128 z)) bytes ≡ signed_leb128 z
 cut_signed most limit room bytes z g = cut_stands limit room bytes z g.2.1 (signed_to bytes g.0 z g.2.0)
 
--- each longer encoding is cut to the shortest
+-- each longer encoding is cut to the minimal
 abbrev pub IsCut : {V : Type 0} → Grammar V → (V → List ℕ) → Type 0
 IsCut {V} G encoding = (bytes : List ℕ) (v : V) → G bytes v → cut (length (encoding v)) bytes ≡ encoding v
 
@@ -201,60 +201,60 @@ pub IsReadBy-u32 : IsReadBy EncodesU32 plain_u32_at
 unfolding EncodesU32 plain_u32_at
 IsReadBy-u32 = IsReadBy-unsigned 5 (2 ^ 32)
 
-pub Shortest-u32 : Shortest EncodesU32 (λ n. n < 2 ^ 32) unsigned_leb128
+pub WritesMinimally-u32 : WritesMinimally EncodesU32 (λ n. n < 2 ^ 32) unsigned_leb128
 unfolding EncodesU32
-Shortest-u32 = Shortest-unsigned 4 (2 ^ 32) (lit≤ tt) (lit≤ tt)
+WritesMinimally-u32 = WritesMinimally-unsigned 4 (2 ^ 32) (lit≤ tt) (lit≤ tt)
 
 pub IsReadBy-u64 : IsReadBy EncodesU64 plain_u64_at
 unfolding EncodesU64 plain_u64_at
 IsReadBy-u64 = IsReadBy-unsigned 10 (2 ^ 64)
 
-pub Shortest-u64 : Shortest EncodesU64 (λ n. n < 2 ^ 64) unsigned_leb128
+pub WritesMinimally-u64 : WritesMinimally EncodesU64 (λ n. n < 2 ^ 64) unsigned_leb128
 unfolding EncodesU64
-Shortest-u64 = Shortest-unsigned 9 (2 ^ 64) (lit≤ tt) (lit≤ tt)
+WritesMinimally-u64 = WritesMinimally-unsigned 9 (2 ^ 64) (lit≤ tt) (lit≤ tt)
 
 pub IsReadBy-s32 : IsReadBy EncodesS32 plain_s32_at
 unfolding EncodesS32 plain_s32_at
 IsReadBy-s32 = IsReadBy-signed 5 (2 ^ 31)
 
-pub Shortest-s32 : Shortest EncodesS32 (Within (2 ^ 31)) signed_leb128
+pub WritesMinimally-s32 : WritesMinimally EncodesS32 (Within (2 ^ 31)) signed_leb128
 unfolding EncodesS32
-Shortest-s32 = Shortest-signed 4 (2 ^ 31) (lit≤ tt) (lit≤ tt)
+WritesMinimally-s32 = WritesMinimally-signed 4 (2 ^ 31) (lit≤ tt) (lit≤ tt)
 
 pub IsReadBy-s64 : IsReadBy EncodesS64 plain_s64_at
 unfolding EncodesS64 plain_s64_at
 IsReadBy-s64 = IsReadBy-signed 10 (2 ^ 63)
 
-pub Shortest-s64 : Shortest EncodesS64 (Within (2 ^ 63)) signed_leb128
+pub WritesMinimally-s64 : WritesMinimally EncodesS64 (Within (2 ^ 63)) signed_leb128
 unfolding EncodesS64
-Shortest-s64 = Shortest-signed 9 (2 ^ 63) (lit≤ tt) (lit≤ tt)
+WritesMinimally-s64 = WritesMinimally-signed 9 (2 ^ 63) (lit≤ tt) (lit≤ tt)
 
 pub IsReadBy-index : IsReadBy EncodesIndex plain_index_at
 unfolding EncodesIndex plain_index_at
 IsReadBy-index = IsReadBy-index-below 5 (2 ^ 32)
 
-pub Shortest-index : Shortest EncodesIndex (λ n. n < 2 ^ 32) (λ n. signed_leb128 (pos n))
+pub WritesMinimally-index : WritesMinimally EncodesIndex (λ n. n < 2 ^ 32) (λ n. signed_leb128 (pos n))
 unfolding EncodesIndex
-Shortest-index = Shortest-index-below 4 (2 ^ 32) (lit≤ tt) (lit≤ tt)
+WritesMinimally-index = WritesMinimally-index-below 4 (2 ^ 32) (lit≤ tt) (lit≤ tt)
 
 -- ---- what is written
 
-pub written : {V : Type 0} {G : Grammar V} {Fits : V → Type 0} {encoding : V → List ℕ} → Shortest G Fits encoding → (v : V) → Fits v → IsShortest G encoding v
+pub written : {V : Type 0} {G : Grammar V} {Fits : V → Type 0} {encoding : V → List ℕ} → WritesMinimally G Fits encoding → (v : V) → Fits v → IsMinimal G encoding v
 written law v fits = record { encodes = law.encodes v fits; least = λ bytes g. law.least bytes v g }
 
-pub u32_written : (n : ℕ) → n < 2 ^ 32 → IsShortest EncodesU32 unsigned_leb128 n
-u32_written n lt = written Shortest-u32 n lt
+pub u32_written : (n : ℕ) → n < 2 ^ 32 → IsMinimal EncodesU32 unsigned_leb128 n
+u32_written n lt = written WritesMinimally-u32 n lt
 
-pub u64_written : (n : ℕ) → n < 2 ^ 64 → IsShortest EncodesU64 unsigned_leb128 n
-u64_written n lt = written Shortest-u64 n lt
+pub u64_written : (n : ℕ) → n < 2 ^ 64 → IsMinimal EncodesU64 unsigned_leb128 n
+u64_written n lt = written WritesMinimally-u64 n lt
 
-pub s32_written : (z : ℤ) → SFits w32 z → IsShortest EncodesS32 signed_leb128 z
-s32_written (pos n) fits = written Shortest-s32 (pos n) fits.sfits
-s32_written (negsuc n) fits = written Shortest-s32 (negsuc n) fits.sfits
+pub s32_written : (z : ℤ) → SFits w32 z → IsMinimal EncodesS32 signed_leb128 z
+s32_written (pos n) fits = written WritesMinimally-s32 (pos n) fits.sfits
+s32_written (negsuc n) fits = written WritesMinimally-s32 (negsuc n) fits.sfits
 
-pub s64_written : (z : ℤ) → SFits w64 z → IsShortest EncodesS64 signed_leb128 z
-s64_written (pos n) fits = written Shortest-s64 (pos n) fits.sfits
-s64_written (negsuc n) fits = written Shortest-s64 (negsuc n) fits.sfits
+pub s64_written : (z : ℤ) → SFits w64 z → IsMinimal EncodesS64 signed_leb128 z
+s64_written (pos n) fits = written WritesMinimally-s64 (pos n) fits.sfits
+s64_written (negsuc n) fits = written WritesMinimally-s64 (negsuc n) fits.sfits
 
-pub index_written : (n : ℕ) → n < 2 ^ 32 → IsShortest EncodesIndex (λ index. signed_leb128 (pos index)) n
-index_written n lt = written Shortest-index n lt
+pub index_written : (n : ℕ) → n < 2 ^ 32 → IsMinimal EncodesIndex (λ index. signed_leb128 (pos index)) n
+index_written n lt = written WritesMinimally-index n lt

@@ -19,18 +19,18 @@ use Rattle.wasm_codec.specs.ReadDigits.{Read, ReadsDigits, ReadsManyDigits, fewe
 -- the first byte was taken
 pub record Taken (p q : Place) (b : ℕ) : Type 0 where
   pub bytes : p.left ≡ b ∷ q.left
-  pub keeps : q.shortest ≡ p.shortest
+  pub keeps : q.minimal ≡ p.minimal
 
 pub byte_took : (p q : Place) (b : ℕ) → byte_at p ≡ Some (b, q) → Taken p q b
 unfolding byte_at
 byte_took p q b e = by p.left refl e where
-  by : (l : List ℕ) → p.left ≡ l → byte_from p.shortest l ≡ Some (b, q) → Taken p q b
+  by : (l : List ℕ) → p.left ≡ l → byte_from p.minimal l ≡ Some (b, q) → Taken p q b
   by [] is e = absurd cc
   by (c ∷ bytes) is e =
-      let same : (c, place p.shortest bytes) ≡ (b, q) = some_is (c, place p.shortest bytes) (b, q) e in
+      let same : (c, place p.minimal bytes) ≡ (b, q) = some_is (c, place p.minimal bytes) (b, q) e in
       record {
         bytes = is ∙ ap (λ (x : ℕ × Place). x.0 ∷ x.1.left) same;
-        keeps = sym (ap (λ (x : ℕ × Place). x.1.shortest) same);
+        keeps = sym (ap (λ (x : ℕ × Place). x.1.minimal) same);
       }
 
 pub list_byte : (p q : Place) (b : ℕ) → byte_at p ≡ Some (b, q) → plain_byte_at p.left ≡ Some (b, q.left)
@@ -39,7 +39,7 @@ list_byte p q b e = ap plain_byte_at (byte_took p q b e).bytes
 pub no_list_byte : (p : Place) → byte_at p ≡ None → plain_byte_at p.left ≡ None
 unfolding byte_at
 no_list_byte p e = by p.left refl e where
-  by : (l : List ℕ) → p.left ≡ l → byte_from p.shortest l ≡ None → plain_byte_at l ≡ None
+  by : (l : List ℕ) → p.left ≡ l → byte_from p.minimal l ≡ None → plain_byte_at l ≡ None
   by [] is e = refl
   by (c ∷ bytes) is e = absurd cc
 
@@ -99,13 +99,13 @@ told turn top n most old new value unit end d few lt =
     rw (k.1, p) (fewest_is turn top k.0 n (omega arith) (omega (arith, d.short, k.1)))
 
 -- a number of digits that were read
-number_is : {V : Type 0} (value : List ℕ → Option V) (bytes : V → List ℕ) (most : ℕ) (old new : Place) (n unit end : ℕ) (d : Read most old new n unit end) (v : V) (t : Bool) → value d.digits ≡ Some v → eqb (length d.digits) (length (bytes v)) ≡ t → number_at most value bytes old ≡ Some (v, place (new.shortest && t) new.left)
+number_is : {V : Type 0} (value : List ℕ → Option V) (bytes : V → List ℕ) (most : ℕ) (old new : Place) (n unit end : ℕ) (d : Read most old new n unit end) (v : V) (t : Bool) → value d.digits ≡ Some v → eqb (length d.digits) (length (bytes v)) ≡ t → number_at most value bytes old ≡ Some (v, place (new.minimal && t) new.left)
 number_is value bytes most old new n unit end d v t is test = rw (d.reads, is, test, d.keeps) refl
 
 pub no_digits : {V : Type 0} (value : List ℕ → Option V) (bytes : V → List ℕ) (most : ℕ) (old : Place) → digits_at most old.left ≡ None → number_at most value bytes old ≡ None
 no_digits value bytes most old none = rw none refl
 
-pub unsigned_is : (limit most : ℕ) (old new : Place) (n unit end : ℕ) → Read most old new n unit end → most ≤ 10 → n < limit → number_at most (below limit) unsigned_leb128 old ≡ Some (n, place (new.shortest && fewest 128 unit n) new.left)
+pub unsigned_is : (limit most : ℕ) (old new : Place) (n unit end : ℕ) → Read most old new n unit end → most ≤ 10 → n < limit → number_at most (below limit) unsigned_leb128 old ≡ Some (n, place (new.minimal && fewest 128 unit n) new.left)
 unfolding unsigned_leb128
 unsigned_is limit most old new n unit end d few lt =
     let same : unsigned d.digits ≡ n = sym d.value_is in
@@ -126,14 +126,14 @@ below_zero : (n unit : ℕ) → n < unit → pos n -ℤ pos unit ≡ negsuc (uni
 below_zero n unit lt = omega (arith, ints, lt)
 
 -- a signed number whose last digit is low
-low_is : (value : List ℕ → Option ℤ) (most : ℕ) (old new : Place) (n unit end : ℕ) (d : Read most old new n unit end) → most ≤ 10 → end < 64 → value d.digits ≡ Some (pos n) → number_at most value signed_leb128 old ≡ Some (pos n, place (new.shortest && fewest 64 unit n) new.left)
+low_is : (value : List ℕ → Option ℤ) (most : ℕ) (old new : Place) (n unit end : ℕ) (d : Read most old new n unit end) → most ≤ 10 → end < 64 → value d.digits ≡ Some (pos n) → number_at most value signed_leb128 old ≡ Some (pos n, place (new.minimal && fewest 64 unit n) new.left)
 unfolding signed_leb128
 low_is value most old new n unit end d few lt is =
     let small : n * 2 < unit = d.low lt in
     number_is value signed_leb128 most old new n unit end d (pos n) (fewest 64 unit n) is (told false 64 n most old new n unit end d few (omega arith))
 
 -- one whose last digit is high
-high_is : (value : List ℕ → Option ℤ) (most : ℕ) (old new : Place) (n unit end : ℕ) (d : Read most old new n unit end) → most ≤ 10 → 64 ≤ end → value d.digits ≡ Some (negsuc (unit - 1 - n)) → number_at most value signed_leb128 old ≡ Some (pos n -ℤ pos unit, place (new.shortest && fewest 64 unit (unit - 1 - n)) new.left)
+high_is : (value : List ℕ → Option ℤ) (most : ℕ) (old new : Place) (n unit end : ℕ) (d : Read most old new n unit end) → most ≤ 10 → 64 ≤ end → value d.digits ≡ Some (negsuc (unit - 1 - n)) → number_at most value signed_leb128 old ≡ Some (pos n -ℤ pos unit, place (new.minimal && fewest 64 unit (unit - 1 - n)) new.left)
 unfolding signed_leb128
 high_is value most old new n unit end d few le is =
     let m = unit - 1 - n in
@@ -141,63 +141,63 @@ high_is value most old new n unit end d few le is =
     let small : n < unit = d.below in
     rw (below_zero n unit small) (number_is value signed_leb128 most old new n unit end d (negsuc m) (fewest 64 unit m) is (told true 64 m most old new n unit end d few (omega arith)))
 
-pub signed_low : (most : ℕ) (old new : Place) (n unit end : ℕ) → Read most old new n unit end → most ≤ 10 → end < 64 → number_at most any_signed signed_leb128 old ≡ Some (pos n, place (new.shortest && fewest 64 unit n) new.left)
+pub signed_low : (most : ℕ) (old new : Place) (n unit end : ℕ) → Read most old new n unit end → most ≤ 10 → end < 64 → number_at most any_signed signed_leb128 old ≡ Some (pos n, place (new.minimal && fewest 64 unit n) new.left)
 signed_low most old new n unit end d few lt =
     let same : unsigned d.digits ≡ n = sym d.value_is in
     low_is any_signed most old new n unit end d few lt (rw (← d.end_is, lt-ltb end 64 lt, same) refl)
 
-pub signed_high : (most : ℕ) (old new : Place) (n unit end : ℕ) → Read most old new n unit end → most ≤ 10 → 64 ≤ end → number_at most any_signed signed_leb128 old ≡ Some (pos n -ℤ pos unit, place (new.shortest && fewest 64 unit (unit - 1 - n)) new.left)
+pub signed_high : (most : ℕ) (old new : Place) (n unit end : ℕ) → Read most old new n unit end → most ≤ 10 → 64 ≤ end → number_at most any_signed signed_leb128 old ≡ Some (pos n -ℤ pos unit, place (new.minimal && fewest 64 unit (unit - 1 - n)) new.left)
 signed_high most old new n unit end d few le =
     let same : unsigned d.digits ≡ n = sym d.value_is in
     high_is any_signed most old new n unit end d few le (rw (← d.end_is, le-ltb end 64 le, same, ← d.unit_is, below_zero n unit d.below) refl)
 
 -- the same within a limit
-pub low_within : (limit most : ℕ) (old new : Place) (n unit end : ℕ) → Read most old new n unit end → most ≤ 10 → end < 64 → n < limit → number_at most (signed_within limit) signed_leb128 old ≡ Some (pos n, place (new.shortest && fewest 64 unit n) new.left)
+pub low_within : (limit most : ℕ) (old new : Place) (n unit end : ℕ) → Read most old new n unit end → most ≤ 10 → end < 64 → n < limit → number_at most (signed_within limit) signed_leb128 old ≡ Some (pos n, place (new.minimal && fewest 64 unit n) new.left)
 low_within limit most old new n unit end d few lt within =
     let same : unsigned d.digits ≡ n = sym d.value_is in
     low_is (signed_within limit) most old new n unit end d few lt (rw (← d.end_is, lt-ltb end 64 lt, same, lt-ltb n limit within) refl)
 
-pub high_within : (limit most : ℕ) (old new : Place) (n unit end : ℕ) → Read most old new n unit end → most ≤ 10 → 64 ≤ end → unit - 1 - n < limit → number_at most (signed_within limit) signed_leb128 old ≡ Some (pos n -ℤ pos unit, place (new.shortest && fewest 64 unit (unit - 1 - n)) new.left)
+pub high_within : (limit most : ℕ) (old new : Place) (n unit end : ℕ) → Read most old new n unit end → most ≤ 10 → 64 ≤ end → unit - 1 - n < limit → number_at most (signed_within limit) signed_leb128 old ≡ Some (pos n -ℤ pos unit, place (new.minimal && fewest 64 unit (unit - 1 - n)) new.left)
 high_within limit most old new n unit end d few le within =
     let same : unsigned d.digits ≡ n = sym d.value_is in
     high_is (signed_within limit) most old new n unit end d few le (rw (← d.end_is, le-ltb end 64 le, same, ← d.unit_is, below_zero n unit d.below, lt-ltb (unit - 1 - n) limit within) refl)
 
 -- ---- numbers of one byte
 
-digit_at : (most : ℕ) (p q : Place) (b : ℕ) → b < 128 → p ≡ place q.shortest (b ∷ q.left) → digits_at (suc most) p.left ≡ Some (b ∷ [], q.left)
+digit_at : (most : ℕ) (p q : Place) (b : ℕ) → b < 128 → p ≡ place q.minimal (b ∷ q.left) → digits_at (suc most) p.left ≡ Some (b ∷ [], q.left)
 unfolding digits_at
 digit_at most p q b lt e = rw (e, lt-ltb b 128 lt) refl
 
-one_read : {V : Type 0} (value : List ℕ → Option V) (bytes : V → List ℕ) (most : ℕ) (p q : Place) (b : ℕ) (v : V) → b < 128 → p ≡ place q.shortest (b ∷ q.left) → value (b ∷ []) ≡ Some v → length (bytes v) ≡ 1 → number_at (suc most) value bytes p ≡ Some (v, q)
+one_read : {V : Type 0} (value : List ℕ → Option V) (bytes : V → List ℕ) (most : ℕ) (p q : Place) (b : ℕ) (v : V) → b < 128 → p ≡ place q.minimal (b ∷ q.left) → value (b ∷ []) ≡ Some v → length (bytes v) ≡ 1 → number_at (suc most) value bytes p ≡ Some (v, q)
 one_read value bytes most p q b v lt e is one =
-    let s : p.shortest ≡ q.shortest = ap (λ (x : Place). x.shortest) e in
-    rw (digit_at most p q b lt e, is, one, s, and-true q.shortest) refl
+    let s : p.minimal ≡ q.minimal = ap (λ (x : Place). x.minimal) e in
+    rw (digit_at most p q b lt e, is, one, s, and-true q.minimal) refl
 
 one_digit : (turn : Bool) (top n : ℕ) → n < top → length (digits_of turn top 9 n) ≡ 1
 unfolding digits_of
 one_digit turn top n lt = rw (lt-ltb n top lt) refl
 
-one_unsigned : (limit most : ℕ) (p q : Place) (b : ℕ) → 128 ≤ limit → b < 128 → p ≡ place q.shortest (b ∷ q.left) → number_at (suc most) (below limit) unsigned_leb128 p ≡ Some (b, q)
+one_unsigned : (limit most : ℕ) (p q : Place) (b : ℕ) → 128 ≤ limit → b < 128 → p ≡ place q.minimal (b ∷ q.left) → number_at (suc most) (below limit) unsigned_leb128 p ≡ Some (b, q)
 unfolding unsigned_leb128
 one_unsigned limit most p q b wide lt e =
     let same : b % 128 + 128 * 0 ≡ b = omega arith in
     one_read (below limit) unsigned_leb128 most p q b b lt e (rw (same, lt-ltb b limit (omega arith)) refl) (one_digit false 128 b lt)
 
-pub u32_one : (p q : Place) (b : ℕ) → b < 128 → p ≡ place q.shortest (b ∷ q.left) → u32_at p ≡ Some (b, q)
+pub u32_one : (p q : Place) (b : ℕ) → b < 128 → p ≡ place q.minimal (b ∷ q.left) → u32_at p ≡ Some (b, q)
 unfolding u32_at
 u32_one p q b lt e = one_unsigned (2 ^ 32) 4 p q b (lit≤ tt) lt e
 
-pub u64_one : (p q : Place) (b : ℕ) → b < 128 → p ≡ place q.shortest (b ∷ q.left) → u64_at p ≡ Some (b, q)
+pub u64_one : (p q : Place) (b : ℕ) → b < 128 → p ≡ place q.minimal (b ∷ q.left) → u64_at p ≡ Some (b, q)
 unfolding u64_at
 u64_one p q b lt e = one_unsigned (2 ^ 64) 9 p q b (lit≤ tt) lt e
 
-one_low : (limit most : ℕ) (p q : Place) (b : ℕ) → 64 ≤ limit → b < 64 → p ≡ place q.shortest (b ∷ q.left) → number_at (suc most) (signed_within limit) signed_leb128 p ≡ Some (pos b, q)
+one_low : (limit most : ℕ) (p q : Place) (b : ℕ) → 64 ≤ limit → b < 64 → p ≡ place q.minimal (b ∷ q.left) → number_at (suc most) (signed_within limit) signed_leb128 p ≡ Some (pos b, q)
 unfolding signed_leb128
 one_low limit most p q b wide lt e =
     let same : b % 128 + 128 * 0 ≡ b = omega arith in
     one_read (signed_within limit) signed_leb128 most p q b (pos b) (omega arith) e (rw (lt-ltb b 64 lt, same, lt-ltb b limit (omega arith)) refl) (one_digit false 64 b lt)
 
-one_high : (limit most : ℕ) (p q : Place) (b : ℕ) → 64 ≤ limit → 64 ≤ b → b < 128 → p ≡ place q.shortest (b ∷ q.left) → number_at (suc most) (signed_within limit) signed_leb128 p ≡ Some (pos b -ℤ pos 128, q)
+one_high : (limit most : ℕ) (p q : Place) (b : ℕ) → 64 ≤ limit → 64 ≤ b → b < 128 → p ≡ place q.minimal (b ∷ q.left) → number_at (suc most) (signed_within limit) signed_leb128 p ≡ Some (pos b -ℤ pos 128, q)
 unfolding signed_leb128
 one_high limit most p q b wide le lt e =
     let same : b % 128 + 128 * 0 ≡ b = omega arith in
@@ -205,29 +205,29 @@ one_high limit most p q b wide le lt e =
     let value : signed_within limit (b ∷ []) ≡ Some (negsuc (127 - b)) = rw (le-ltb b 64 le, same, negative, lt-ltb (127 - b) limit (omega arith)) refl in
     one_read (signed_within limit) signed_leb128 most p q b (negsuc (127 - b)) lt e value (one_digit true 64 (127 - b) (omega arith)) ∙ ap (λ (z : ℤ). Some (z, q)) (sym negative)
 
-pub s32_low : (p q : Place) (b : ℕ) → b < 64 → p ≡ place q.shortest (b ∷ q.left) → s32_at p ≡ Some (pos b, q)
+pub s32_low : (p q : Place) (b : ℕ) → b < 64 → p ≡ place q.minimal (b ∷ q.left) → s32_at p ≡ Some (pos b, q)
 unfolding s32_at
 s32_low p q b lt e = one_low (2 ^ 31) 4 p q b (lit≤ tt) lt e
 
-pub s32_high : (p q : Place) (b : ℕ) → 64 ≤ b → b < 128 → p ≡ place q.shortest (b ∷ q.left) → s32_at p ≡ Some (pos b -ℤ pos 128, q)
+pub s32_high : (p q : Place) (b : ℕ) → 64 ≤ b → b < 128 → p ≡ place q.minimal (b ∷ q.left) → s32_at p ≡ Some (pos b -ℤ pos 128, q)
 unfolding s32_at
 s32_high p q b le lt e = one_high (2 ^ 31) 4 p q b (lit≤ tt) le lt e
 
-pub s64_low : (p q : Place) (b : ℕ) → b < 64 → p ≡ place q.shortest (b ∷ q.left) → s64_at p ≡ Some (pos b, q)
+pub s64_low : (p q : Place) (b : ℕ) → b < 64 → p ≡ place q.minimal (b ∷ q.left) → s64_at p ≡ Some (pos b, q)
 unfolding s64_at
 s64_low p q b lt e = one_low (2 ^ 63) 9 p q b (lit≤ tt) lt e
 
-pub s64_high : (p q : Place) (b : ℕ) → 64 ≤ b → b < 128 → p ≡ place q.shortest (b ∷ q.left) → s64_at p ≡ Some (pos b -ℤ pos 128, q)
+pub s64_high : (p q : Place) (b : ℕ) → 64 ≤ b → b < 128 → p ≡ place q.minimal (b ∷ q.left) → s64_at p ≡ Some (pos b -ℤ pos 128, q)
 unfolding s64_at
 s64_high p q b le lt e = one_high (2 ^ 63) 9 p q b (lit≤ tt) le lt e
 
-pub index_low : (p q : Place) (b : ℕ) → b < 64 → p ≡ place q.shortest (b ∷ q.left) → index_at p ≡ Some (b, q)
+pub index_low : (p q : Place) (b : ℕ) → b < 64 → p ≡ place q.minimal (b ∷ q.left) → index_at p ≡ Some (b, q)
 unfolding index_at signed_leb128
 index_low p q b lt e =
     let same : b % 128 + 128 * 0 ≡ b = omega arith in
     one_read (index_below (2 ^ 32)) (λ n. signed_leb128 (pos n)) 4 p q b b (omega arith) e (rw (lt-ltb b 64 lt, same, lt-ltb b (2 ^ 32) (omega arith)) refl) (one_digit false 64 b lt)
 
-pub index_high : (p q : Place) (b : ℕ) → 64 ≤ b → b < 128 → p ≡ place q.shortest (b ∷ q.left) → index_at p ≡ None
+pub index_high : (p q : Place) (b : ℕ) → 64 ≤ b → b < 128 → p ≡ place q.minimal (b ∷ q.left) → index_at p ≡ None
 unfolding index_at
 index_high p q b le lt e =
     let same : b % 128 + 128 * 0 ≡ b = omega arith in
@@ -271,7 +271,7 @@ digits_parts (suc most) (b ∷ bytes) digits rest e = by (λ ds more. digits_par
       subst (λ (x : List ℕ × List ℕ). NumberParts (suc most) (b ∷ bytes) x.0 x.1) (some_is (b ∷ p.0.0, p.0.1) (digits, rest) p.2) (record { parts = ap (λ (t : List ℕ). b ∷ t) t.parts; short = omega (arith, t.short) })
 
 -- the last digit was read
-pub read_end : (most : ℕ) (old here new : Place) (i b n unit : ℕ) → i < most → b < 128 → n < unit → here.left ≡ drop i old.left → here.shortest ≡ old.shortest → reads_on most old.left i ≡ digits_at most old.left → n ≡ unsigned (take i old.left) → unit ≡ 128 ^ i → byte_at here ≡ Some (b, new)
+pub read_end : (most : ℕ) (old here new : Place) (i b n unit : ℕ) → i < most → b < 128 → n < unit → here.left ≡ drop i old.left → here.minimal ≡ old.minimal → reads_on most old.left i ≡ digits_at most old.left → n ≡ unsigned (take i old.left) → unit ≡ 128 ^ i → byte_at here ≡ Some (b, new)
     → Read most old new (n + (b % 128) * unit) (unit * 128) b
 read_end most old here new i b n unit less small lt rest keeps so_far value pow e =
     let byte = byte_is old.left i b new.left (sym (ap plain_byte_at rest) ∙ list_byte here new b e) in
@@ -312,7 +312,7 @@ few_bounds more i n unit digit le e lt small =
 
 -- ---- the widths
 
-pub u32_is : (old new : Place) (n unit end : ℕ) → Read 5 old new n unit end → n < 2 ^ 32 → u32_at old ≡ Some (n, place (new.shortest && fewest 128 unit n) new.left)
+pub u32_is : (old new : Place) (n unit end : ℕ) → Read 5 old new n unit end → n < 2 ^ 32 → u32_at old ≡ Some (n, place (new.minimal && fewest 128 unit n) new.left)
 unfolding u32_at
 u32_is old new n unit end d lt = unsigned_is (2 ^ 32) 5 old new n unit end d (lit≤ tt) lt
 
@@ -324,7 +324,7 @@ pub u32_none : (old : Place) → digits_at 5 old.left ≡ None → u32_at old �
 unfolding u32_at
 u32_none old none = no_digits (below (2 ^ 32)) unsigned_leb128 5 old none
 
-pub u64_is : (old new : Place) (n unit end : ℕ) → Read 10 old new n unit end → n < 2 ^ 64 → u64_at old ≡ Some (n, place (new.shortest && fewest 128 unit n) new.left)
+pub u64_is : (old new : Place) (n unit end : ℕ) → Read 10 old new n unit end → n < 2 ^ 64 → u64_at old ≡ Some (n, place (new.minimal && fewest 128 unit n) new.left)
 unfolding u64_at
 u64_is old new n unit end d lt = unsigned_is (2 ^ 64) 10 old new n unit end d (lit≤ tt) lt
 

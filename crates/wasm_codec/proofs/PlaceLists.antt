@@ -1,4 +1,4 @@
--- Loops that read at a place: so many items, items to the end, normal forms, and shortest encodings alone.
+-- Loops that read at a place: so many items, items to the end, normal forms, and minimal encodings alone.
 use Rattle.std.proofs.Common.{◌≡◌, ℕ, suc, ◌+◌, ◌-◌, ◌<◌, ◌≤◌, Bool, true, false, cond, List, [], ◌∷◌, ◌++◌, length, Option, Some, None, Result, Ok, Err, refl, sym, ap, ◌∙◌, append_assoc, inl, inr, arith}
 use Rattle.std.proofs.lemmas.List.{append-nil}
 use Rattle.std.proofs.lemmas.Bool.{eqb-true}
@@ -7,13 +7,13 @@ use Rattle.wasm_codec.specs.declared.reader.cursor.Fault.{Fault}
 use Rattle.wasm_codec.specs.declared.reader.cursor.Fault.TheVariants as faults
 use Rattle.wasm_codec.specs.formats.Grammar.{Grammar, IsBytes}
 use Rattle.wasm_codec.specs.Reading.{ReadsPlain, ◌>>=◌}
-use Rattle.wasm_codec.specs.Encoding.{IsShortestOrLonger}
+use Rattle.wasm_codec.specs.Encoding.{IsMinimalOrLonger}
 use Rattle.wasm_codec.proofs.Laws.{BeginsWith-is, one_reading, bind_some, some, some_is}
 use Rattle.wasm_codec.specs.Reading.{BeginsWith, IsReadBy as ListReads}
 use Rattle.wasm_codec.specs.formats.Grammar.{TakesBytes}
 use Rattle.wasm_codec.proofs.ListReading.{Progress, Next, next}
 use Rattle.wasm_codec.specs.Places.{Place, place, Reader, Reads, keeps, times_at, counted_at}
-use Rattle.wasm_codec.specs.formats.Combinators.{Format, only_shortest, minimal_only}
+use Rattle.wasm_codec.specs.formats.Combinators.{Format, only_minimal, minimal_only}
 use Rattle.wasm_codec.proofs.FormatLaws.{BeginsWith-at, keeps_same}
 use Rattle.wasm_codec.specs.Lawful.{ReadsPlaces, IsLawful, plain, IsPrefixFree}
 
@@ -97,19 +97,19 @@ plain_reads {V} {G} {bytes} {read} r = record {
 pub prefix_free : {V : Type 0} {F : Format V} → IsLawful F → IsPrefixFree F.Encodes
 prefix_free {V} {F} r a b rest v w g h e = sym (one_reading (plain_reads r.reads) a b [] rest v w g h (append-nil a ∙ e)).2
 
--- one item was read, and the place tells whether it was the shortest encoding
+-- one item was read, and the place tells whether it was the minimal encoding
 pub record Step {V : Type 0} (F : Format V) (p : Place) (v : V) (q : Place) : Type 0 where
   pub prefix : List ℕ
   pub encodes : F.Encodes prefix v
   pub parts : p.left ≡ prefix ++ q.left
-  pub tells : q.shortest ≡ keeps p.shortest prefix (F.bytes v)
+  pub tells : q.minimal ≡ keeps p.minimal prefix (F.bytes v)
 
 pub step : {V : Type 0} {F : Format V} → IsLawful F → (p : Place) (v : V) (q : Place) → IsBytes p.left → F.at p ≡ Some (v, q) → Step F p v q
 step {V} {F} r p v q fits e =
     let one = r.reads.sound p v q fits e in
-    let again : F.at p ≡ Some (v, place (keeps p.shortest one.prefix (F.bytes v)) q.left) = ap (λ (l : List ℕ). F.at (place p.shortest l)) one.parts ∙ r.reads.complete one.prefix v q.left p.shortest one.encodes in
-    let same = some_is (v, q) (v, place (keeps p.shortest one.prefix (F.bytes v)) q.left) (sym e ∙ again) in
-    record { prefix = one.prefix; encodes = one.encodes; parts = one.parts; tells = ap (λ (x : V × Place). x.1.shortest) same }
+    let again : F.at p ≡ Some (v, place (keeps p.minimal one.prefix (F.bytes v)) q.left) = ap (λ (l : List ℕ). F.at (place p.minimal l)) one.parts ∙ r.reads.complete one.prefix v q.left p.minimal one.encodes in
+    let same = some_is (v, q) (v, place (keeps p.minimal one.prefix (F.bytes v)) q.left) (sym e ∙ again) in
+    record { prefix = one.prefix; encodes = one.encodes; parts = one.parts; tells = ap (λ (x : V × Place). x.1.minimal) same }
 
 pub plain_some : {V : Type 0} {F : Format V} → IsLawful F → (p : Place) (v : V) (q : Place) → IsBytes p.left → F.at p ≡ Some (v, q) → plain F.at p.left ≡ Some (v, q.left)
 plain_some {V} {F} r p v q fits e =
@@ -125,7 +125,7 @@ plain_none {V} {F} r p fits none = by (plain F.at p.left) refl where
   by None e = refl
   by (Some x) e =
       let one = (plain_reads r.reads).sound p.left x.0 x.1 fits e in
-      absurd (clash (F.at p) (x.0, place (keeps p.shortest one.prefix (F.bytes x.0)) x.1) none (ap (λ (l : List ℕ). F.at (place p.shortest l)) one.parts ∙ r.reads.complete one.prefix x.0 x.1 p.shortest one.encodes))
+      absurd (clash (F.at p) (x.0, place (keeps p.minimal one.prefix (F.bytes x.0)) x.1) none (ap (λ (l : List ℕ). F.at (place p.minimal l)) one.parts ∙ r.reads.complete one.prefix x.0 x.1 p.minimal one.encodes))
 
 -- and what wasn't read: so the laws of loops over bytes serve loops over places
 pub plain_fault : {V : Type 0} {F : Format V} → IsLawful F → (p q : Place) → IsBytes p.left → (fault : Fault) → Reads F.at p q (Err fault) → ReadsPlain (plain F.at) p.left q.left (Err fault)
@@ -141,18 +141,18 @@ place_next r some bytes p q vs v fits left g e = next (plain_reads r.reads) some
 
 -- ---- normal forms
 
-pub is_shortest : (prefix encoding : List ℕ) → IsShortestOrLonger prefix encoding → keeps true prefix encoding ≡ true → prefix ≡ encoding
-is_shortest prefix encoding (inl e) test = e
-is_shortest prefix encoding (inr lt) test = let e = eqb-true (length prefix) (length encoding) test in absurd (omega (arith, e))
+pub is_minimal : (prefix encoding : List ℕ) → IsMinimalOrLonger prefix encoding → keeps true prefix encoding ≡ true → prefix ≡ encoding
+is_minimal prefix encoding (inl e) test = e
+is_minimal prefix encoding (inr lt) test = let e = eqb-true (length prefix) (length encoding) test in absurd (omega (arith, e))
 
--- ---- shortest encodings alone
+-- ---- minimal encodings alone
 
 pub Lawful-minimal_only : {A : Type 0} {F : Format A} → IsLawful F → IsLawful (minimal_only F)
 Lawful-minimal_only {A} {F} r = record {
   reads = record { sound = sound; complete = complete };
-  shortest = record {
-    encodes = λ v fits. (r.shortest.encodes v fits, refl);
-    again = λ bytes v g. (r.shortest.again bytes v g.0, refl);
+  minimal = record {
+    encodes = λ v fits. (r.minimal.encodes v fits, refl);
+    again = λ bytes v g. (r.minimal.again bytes v g.0, refl);
     least = λ bytes v g. inl g.1;
   };
   in_range = λ bytes v g. r.in_range bytes v g.0;
@@ -161,13 +161,13 @@ Lawful-minimal_only {A} {F} r = record {
 } where
   sound : (p : Place) (v : A) (q : Place) → IsBytes p.left → (minimal_only F).at p ≡ Some (v, q) → BeginsWith (minimal_only F).Encodes p.left v q.left
   sound p v q fits e =
-      let f = bind_some (F.at (place true p.left)) (λ x. only_shortest p.shortest x) (v, q) e in
-      by f.0.0 f.0.1 (step r (place true p.left) f.0.0 f.0.1 fits f.1) f.0.1.shortest refl f.2
+      let f = bind_some (F.at (place true p.left)) (λ x. only_minimal p.minimal x) (v, q) e in
+      by f.0.0 f.0.1 (step r (place true p.left) f.0.0 f.0.1 fits f.1) f.0.1.minimal refl f.2
     where
-      by : (w : A) (after : Place) → Step F (place true p.left) w after → (t : Bool) → after.shortest ≡ t → cond t (some {A = A × Place} (w, place p.shortest after.left)) None ≡ Some (v, q) → BeginsWith (minimal_only F).Encodes p.left v q.left
+      by : (w : A) (after : Place) → Step F (place true p.left) w after → (t : Bool) → after.minimal ≡ t → cond t (some {A = A × Place} (w, place p.minimal after.left)) None ≡ Some (v, q) → BeginsWith (minimal_only F).Encodes p.left v q.left
       by w after one true is e =
-          let same : one.prefix ≡ F.bytes w = is_shortest one.prefix (F.bytes w) (r.shortest.least one.prefix w one.encodes) (sym one.tells ∙ is) in
-          BeginsWith-at (minimal_only F).Encodes p.left w v (place p.shortest after.left) q e (record { prefix = one.prefix; encodes = (one.encodes, same); parts = one.parts })
+          let same : one.prefix ≡ F.bytes w = is_minimal one.prefix (F.bytes w) (r.minimal.least one.prefix w one.encodes) (sym one.tells ∙ is) in
+          BeginsWith-at (minimal_only F).Encodes p.left w v (place p.minimal after.left) q e (record { prefix = one.prefix; encodes = (one.encodes, same); parts = one.parts })
       by w after one false is e = absurd cc
 
   complete : (prefix : List ℕ) (v : A) (rest : List ℕ) (s : Bool) → (minimal_only F).Encodes prefix v → (minimal_only F).at (place s (prefix ++ rest)) ≡ Some (v, place (keeps s prefix (F.bytes v)) rest)

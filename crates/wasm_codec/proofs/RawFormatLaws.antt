@@ -4,12 +4,12 @@ use Rattle.std.proofs.lemmas.List.{take_at, drop_at, take-append-drop, length-ta
 use Rattle.std.proofs.lemmas.Bool.{ltb-false, le-ltb}
 use Rattle.std.proofs.lemmas.Nat.{div_below}
 use Rattle.wasm_codec.specs.formats.Grammar.{IsBytes, Mapped}
-use Rattle.wasm_codec.specs.Encoding.{IsShortestOrLonger}
+use Rattle.wasm_codec.specs.Encoding.{IsMinimalOrLonger}
 use Rattle.wasm_codec.specs.formats.Numbers.{EncodesS64}
 use Rattle.wasm_codec.specs.Leb128.{signed_leb128, plain_s64_at, signed_within}
 use Rattle.wasm_codec.proofs.Laws.{bind_some, some_is}
 use Rattle.wasm_codec.specs.Reading.{BeginsWith}
-use Rattle.wasm_codec.proofs.NumberLaws.{IsReadBy-s64, Shortest-s64}
+use Rattle.wasm_codec.proofs.NumberLaws.{IsReadBy-s64, WritesMinimally-s64}
 use Rattle.wasm_codec.specs.Places.{Place, place, keeps, byte_at, raw_at, s64_at}
 use Rattle.wasm_codec.specs.formats.Combinators.{Format, made_of, byte_where, raw, with_low, low_and_high, little_endian, s64}
 use Rattle.wasm_codec.proofs.NumberReading.{byte_took}
@@ -18,7 +18,7 @@ use Rattle.wasm_codec.specs.Lawful.{IsLawful}
 
 pub Lawful-s64 : IsLawful s64
 unfolding EncodesS64 s64_at plain_s64_at
-Lawful-s64 = record { reads = Reads-number (signed_within (2 ^ 63)) signed_leb128 IsReadBy-s64; shortest = Shortest-s64; in_range = λ bytes n g. g.2.1; are_bytes = λ bytes n g. digits_bytes bytes g.0; begins = λ bytes n g. digits_some bytes g.0 }
+Lawful-s64 = record { reads = Reads-number (signed_within (2 ^ 63)) signed_leb128 IsReadBy-s64; minimal = WritesMinimally-s64; in_range = λ bytes n g. g.2.1; are_bytes = λ bytes n g. digits_bytes bytes g.0; begins = λ bytes n g. digits_some bytes g.0 }
 
 -- ---- what is made of a value
 
@@ -26,7 +26,7 @@ Lawful-s64 = record { reads = Reads-number (signed_within (2 ^ 63)) signed_leb12
 pub Lawful-made-of : {A B : Type 0} {F : Format A} (make : A → B) (parts : B → A) (R : B → Type 0) → ((a : A) → F.InRange a → R (make a) × (parts (make a) ≡ a)) → ((b : B) → R b → F.InRange (parts b) × (make (parts b) ≡ b)) → IsLawful F → IsLawful (made_of make parts R F)
 Lawful-made-of {A} {B} {F} make parts R back there r = record {
   reads = record { sound = sound; complete = complete };
-  shortest = record { encodes = encodes; again = λ bytes b g. encodes b (in_range bytes b g); least = least };
+  minimal = record { encodes = encodes; again = λ bytes b g. encodes b (in_range bytes b g); least = least };
   in_range = in_range;
   are_bytes = λ bytes b g. r.are_bytes bytes g.0 g.1;
   begins = λ bytes b g. r.begins bytes g.0 g.1;
@@ -44,13 +44,13 @@ Lawful-made-of {A} {B} {F} make parts R back there r = record {
   complete prefix b rest s g = rw (r.reads.complete prefix g.0 rest s g.1, parts_are prefix b g, g.2) refl
 
   encodes : (b : B) → R b → Mapped make F.Encodes (F.bytes (parts b)) b
-  encodes b fits = (parts b, r.shortest.encodes (parts b) (there b fits).0, (there b fits).1)
+  encodes b fits = (parts b, r.minimal.encodes (parts b) (there b fits).0, (there b fits).1)
 
   in_range : (bytes : List ℕ) (b : B) → Mapped make F.Encodes bytes b → R b
   in_range bytes b g = subst R g.2 (back g.0 (r.in_range bytes g.0 g.1)).0
 
-  least : (bytes : List ℕ) (b : B) → Mapped make F.Encodes bytes b → IsShortestOrLonger bytes (F.bytes (parts b))
-  least bytes b g = subst (λ (a : A). IsShortestOrLonger bytes (F.bytes a)) (sym (parts_are bytes b g)) (r.shortest.least bytes g.0 g.1)
+  least : (bytes : List ℕ) (b : B) → Mapped make F.Encodes bytes b → IsMinimalOrLonger bytes (F.bytes (parts b))
+  least bytes b g = subst (λ (a : A). IsMinimalOrLonger bytes (F.bytes a)) (sym (parts_are bytes b g)) (r.minimal.least bytes g.0 g.1)
 
 -- ---- a byte for which something holds
 
@@ -58,7 +58,7 @@ pub Lawful-byte-where : (test : ℕ → Bool) → IsLawful (byte_where test)
 unfolding byte_at
 Lawful-byte-where test = record {
   reads = record { sound = sound; complete = λ prefix b rest s g. rw (g.0, g.2, keeps_same s (b ∷ [])) refl };
-  shortest = record { encodes = λ b fits. (refl, fits.0, fits.1); again = λ bytes b g. (refl, g.1, g.2); least = λ bytes b g. inl g.0 };
+  minimal = record { encodes = λ b fits. (refl, fits.0, fits.1); again = λ bytes b g. (refl, g.1, g.2); least = λ bytes b g. inl g.0 };
   in_range = λ bytes b g. (g.1, g.2);
   are_bytes = λ bytes b g. rw g.0 (g.1, tt);
   begins = λ bytes b g. rw g.0 g.2;
@@ -94,14 +94,14 @@ pub Lawful-raw : (count : ℕ) → IsLawful (raw count)
 unfolding raw_at
 Lawful-raw count = record {
   reads = record { sound = sound; complete = complete };
-  shortest = record { encodes = λ v fits. (refl, fits); again = λ bytes v g. (refl, g.1); least = λ bytes v g. inl g.0 };
+  minimal = record { encodes = λ v fits. (refl, fits); again = λ bytes v g. (refl, g.1); least = λ bytes v g. inl g.0 };
   in_range = λ bytes v g. g.1;
   are_bytes = λ bytes v g. rw g.0 g.1.1;
   begins = λ bytes v g. refl;
 } where
   sound : (p : Place) (v : List ℕ) (q : Place) → IsBytes p.left → (raw count).at p ≡ Some (v, q) → BeginsWith (raw count).Encodes p.left v q.left
   sound p v q fits e =
-      let g = guard_none (ltb (length p.left) count) (take count p.left, place p.shortest (drop count p.left)) (v, q) e in
+      let g = guard_none (ltb (length p.left) count) (take count p.left, place p.minimal (drop count p.left)) (v, q) e in
       subst (λ (x : List ℕ × Place). BeginsWith (raw count).Encodes p.left x.0 x.1.left) g.1 (raw_taken count p.left fits (ltb-false _ _ g.0))
 
   complete : (prefix v rest : List ℕ) (s : Bool) → (raw count).Encodes prefix v → (raw count).at (place s (prefix ++ rest)) ≡ Some (v, place (keeps s prefix v) rest)

@@ -10,7 +10,7 @@ use Rattle.wasm_codec.proofs.RewriterLaws.{after_is}
 -- what stands in the next bytes
 pub record Number (count : ℕ) (p : Place) : Type 0 where
   pub value : ℕ
-  pub is_read : (little_endian count).at p ≡ Some (value, place p.shortest (drop count p.left))
+  pub is_read : (little_endian count).at p ≡ Some (value, place p.minimal (drop count p.left))
   pub bytes : (little_endian count).bytes value ≡ take count p.left
 
 pub number_at : (count : ℕ) (s : Bool) (left : List ℕ) → IsBytes left → count ≤ length left → Number count (place s left)
@@ -28,7 +28,7 @@ number_at (suc more) s (b ∷ left) fits le =
 
 pub number_stays : (count : ℕ) (r : Rewriting) → IsBytes r.place.left → count ≤ length r.place.left → rewriting_after (little_endian count) r ≡ Some (skipped count r)
 number_stays count r fits le =
-    let n = number_at count r.place.shortest r.place.left fits le in
+    let n = number_at count r.place.minimal r.place.left fits le in
     after_is (little_endian count) r (skipped count r) n.value n.is_read (ap (λ (t : List ℕ). r.done ++ t) (sym n.bytes)) refl
 
 none_left : (count : ℕ) (s : Bool) (left : List ℕ) → length left < count → (little_endian count).at (place s left) ≡ None
@@ -38,4 +38,4 @@ none_left (suc more) s [] lt = refl
 none_left (suc more) s (b ∷ left) lt = rw (none_left more s left (omega arith)) refl
 
 pub no_number : (count : ℕ) (p : Place) → length p.left < count → (little_endian count).at p ≡ None
-no_number count p lt = none_left count p.shortest p.left lt
+no_number count p lt = none_left count p.minimal p.left lt

@@ -20,7 +20,7 @@ use Rattle.wasm_codec.proofs.RawFormatLaws.{IsBytes-take}
 use Rattle.wasm_codec.proofs.ListReading.{Progress, progress_bytes}
 use Rattle.wasm_codec.proofs.PlaceLists.{Passed, passed_none, passed_more, passed_fault, passed_all, after_items, regroup_items, after_no_items, place_next, plain_none, step}
 
--- a value was read, and its shortest encoding was written
+-- a value was read, and its minimal encoding was written
 pub record IsGiven {V : Type 0} (F : Format V) (p : Rewriting) (v : V) (q : Rewriting) : Type 0 where
   pub is_read : F.at p.place ≡ Some (v, q.place)
   pub written : q.done ≡ p.done ++ F.bytes v
@@ -165,7 +165,7 @@ reads_shorter {V} {F} law (v ∷ values) bytes left fits (next, (read, reads)) =
     let again = reads_shorter law values next left (bytes_after one.prefix next (subst IsBytes one.parts fits)) reads in
     omega (arith, again, ap (length {A = ℕ}) one.parts, length-append one.prefix next)
 
--- values that are read in their shortest encodings stay
+-- values that are read in their minimal encodings stay
 run_stays : {V : Type 0} {F : Format V} → IsLawful F → TakesBytes F.Encodes → (old here : Rewriting) (values : List V) (left : List ℕ) → IsBytes old.place.left → Going F old here → ReadsShort F values here.place.left left → Going F old (skipped (length here.place.left - length left) here)
 run_stays {V} {F} law some old here [] left fits going reads =
     let none : length here.place.left - length left ≡ 0 = omega (arith, ap (length {A = ℕ}) reads) in

@@ -171,13 +171,13 @@ same_kept signed bytes count end kept within is k = down (count - kept) (kept - 
       same_then signed (take count bytes) end (take (i + 1) bytes) (low bytes (i + 1)) (take i bytes) (low bytes i) again
       (one i (low bytes (i + 1)) (omega (arith, within, is_all)) (ap (λ (n : ℕ). repeats signed (get_or bytes n 0) (low bytes (i + 1))) (sym before) ∙ k.repeated (i + 1) from (omega (arith, is_all))))
 
--- ---- a number and its shortest encoding
+-- ---- a number and its minimal encoding
 
--- These digits stand for a number, of which those are the shortest encoding.
-record Found {V : Type 0} (G : Grammar V) (encoding : V → List ℕ) (digits shortest : List ℕ) : Type 0 where
+-- These digits stand for a number, of which those are the minimal encoding.
+record Found {V : Type 0} (G : Grammar V) (encoding : V → List ℕ) (digits minimal : List ℕ) : Type 0 where
   v : V
   encodes : G digits v
-  same : shortest ≡ encoding v
+  same : minimal ≡ encoding v
 
 -- digits, and the fewest for the same number
 record Cutting (signed : Bool) (most limit : ℕ) (front : List ℕ) (end : ℕ) (begin : List ℕ) (last : ℕ) : Type 0 where
@@ -319,13 +319,13 @@ split : (bytes : List ℕ) (i : ℕ) → i < length bytes → bytes ≡ (take i 
 split bytes i within = sym (take-append-drop (i + 1) bytes) ∙ ap (λ (t : List ℕ). t ++ drop (i + 1) bytes) (take_more bytes i 0 within)
 
 -- a number is read where its digits are
-read_there : {V : Type 0} {F : Format V} → IsLawful F → (bytes : List ℕ) (i : ℕ) → i < length bytes → (v : V) → F.Encodes (take i bytes ++ get_or bytes i 0 ∷ []) v → (shortest : Bool) → eqb (i + 1) (length (F.bytes v)) ≡ shortest → F.at (place true bytes) ≡ Some (v, place shortest (drop (i + 1) bytes))
-read_there {V} {F} law bytes i within v g shortest is =
+read_there : {V : Type 0} {F : Format V} → IsLawful F → (bytes : List ℕ) (i : ℕ) → i < length bytes → (v : V) → F.Encodes (take i bytes ++ get_or bytes i 0 ∷ []) v → (minimal : Bool) → eqb (i + 1) (length (F.bytes v)) ≡ minimal → F.at (place true bytes) ≡ Some (v, place minimal (drop (i + 1) bytes))
+read_there {V} {F} law bytes i within v g minimal is =
     let digits = take i bytes ++ get_or bytes i 0 ∷ [] in
     let len : length digits ≡ i + 1 = omega (arith, digits-length (take i bytes) (get_or bytes i 0), length-take-le i bytes (omega arith)) in
     ap (λ (t : List ℕ). F.at (place true t)) (split bytes i within) ∙ law.reads.complete digits v (drop (i + 1) bytes) true g ∙ ap (λ (s : Bool). Some (v, place s (drop (i + 1) bytes))) (rw len is)
 
-short_scanned : {V : Type 0} {F : Format V} → IsLawful F → (signed : Bool) (most top limit : ℕ) → Bounds most top limit → Finds signed most limit F → (bytes : List ℕ) (count : ℕ) → IsShortNumber signed (suc most) top bytes count → Scans F bytes (Some (scanned.Shortest count))
+short_scanned : {V : Type 0} {F : Format V} → IsLawful F → (signed : Bool) (most top limit : ℕ) → Bounds most top limit → Finds signed most limit F → (bytes : List ℕ) (count : ℕ) → IsShortNumber signed (suc most) top bytes count → Scans F bytes (Some (scanned.Minimal count))
 short_scanned {V} {F} law signed most top limit b finds bytes count s =
     let i = s.before in
     let d = s.digits in
@@ -388,12 +388,12 @@ padded_scanned {V} {F} law signed most top limit b finds bytes i s kept k =
     let long : kept ≡ length (F.bytes f.v) = omega (arith, ap (length {A = ℕ}) f.same, digits-length (take (kept - 1) bytes) (low bytes (kept - 1)), kept_len, k.some) in
     let other : eqb (i + 1) (length (F.bytes f.v)) ≡ false = ne_eqb (i + 1) (length (F.bytes f.v)) (λ e. omega (arith, e, long, k.fewer)) in
     let at : kept ≡ suc (kept - 1) = omega (arith, k.some) in
-    let shortest : cut kept bytes ≡ F.bytes f.v = ap (λ (n : ℕ). cut n bytes) at ∙ cut_is (kept - 1) bytes (omega (arith, d.within, k.fewer, k.some)) ∙ f.same in
-    record { value = f.v; read = read_there law bytes i d.within f.v f.encodes false other; shortest = shortest }
+    let minimal : cut kept bytes ≡ F.bytes f.v = ap (λ (n : ℕ). cut n bytes) at ∙ cut_is (kept - 1) bytes (omega (arith, d.within, k.fewer, k.some)) ∙ f.same in
+    record { value = f.v; read = read_there law bytes i d.within f.v f.encodes false other; minimal = minimal }
 
 digits_scanned : {V : Type 0} {F : Format V} → IsLawful F → (signed : Bool) (most top limit : ℕ) → Bounds most top limit → Finds signed most limit F → (bytes : List ℕ) (r : Option Scanned) → ScansDigits signed (suc most) top bytes r → Scans F bytes r
 digits_scanned law signed most top limit b finds bytes None s = tt
-digits_scanned law signed most top limit b finds bytes (Some (scanned.Shortest count)) s = short_scanned law signed most top limit b finds bytes count s
+digits_scanned law signed most top limit b finds bytes (Some (scanned.Minimal count)) s = short_scanned law signed most top limit b finds bytes count s
 digits_scanned {V} {F} law signed most top limit b finds bytes (Some (scanned.Padded sign start more)) (is, none, s) =
     ((s.some, omega (arith, none, s.digits.within)), λ kept k. whole kept (subst (λ (t : Bool). KeepsDigits t bytes more kept) is (rw none at k)))
   where
@@ -407,10 +407,10 @@ pub u32_scanned : (bytes : List ℕ) (r : Option Scanned) → ScansDigits false 
 unfolding EncodesU32
 u32_scanned = digits_scanned Lawful-u32 false 4 16 (2 ^ 32) (record { wide = lit≤ tt; tops = lit≤ tt; few = omega arith }) (unsigned_found 4 (2 ^ 32) (lit≤ tt))
 
-pub short_u32_scanned : (bytes : List ℕ) (count : ℕ) → IsShortNumber false 2 128 bytes count → Scans u32 bytes (Some (scanned.Shortest count))
+pub short_u32_scanned : (bytes : List ℕ) (count : ℕ) → IsShortNumber false 2 128 bytes count → Scans u32 bytes (Some (scanned.Minimal count))
 short_u32_scanned bytes count s =
     let d = s.digits in
-    u32_scanned bytes (Some (scanned.Shortest count)) (record {
+    u32_scanned bytes (Some (scanned.Minimal count)) (record {
       before = s.before;
       digits = record { count_is = d.count_is; few = omega (arith, d.few); within = d.within; more = d.more; small = d.small };
       fewer = inl (omega (arith, d.few));

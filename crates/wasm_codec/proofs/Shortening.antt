@@ -1,4 +1,4 @@
--- Numbers that are read and left in their shortest encodings.
+-- Numbers that are read and left in their minimal encodings.
 use Rattle.std.proofs.Common.{◌≡◌, ℕ, ◌+◌, ◌-◌, ◌≤◌, Bool, true, false, ◌&&◌, List, ◌++◌, length, take, drop, Option, Some, None, Err, [], ◌∷◌, ◌<◌, append_assoc, take-append-drop, drop-drop, refl, sym, ap, subst, if◌then◌else◌, ◌∙◌, length-append, length-drop, arith}
 use Rattle.std.proofs.Math.Bool.{and-true, and-false}
 use Rattle.std.proofs.lemmas.List.{take_at, drop_at}
@@ -16,7 +16,7 @@ use Rattle.wasm_codec.specs.declared.rewriter.scan.Scanned.TheVariants as scanne
 use Rattle.wasm_codec.proofs.FormatLaws.{not_longer}
 use Rattle.wasm_codec.proofs.Laws.{bind_some, some_is}
 use Rattle.wasm_codec.proofs.NumberLaws.{IsCut}
-use Rattle.wasm_codec.proofs.PlaceLists.{step, is_shortest}
+use Rattle.wasm_codec.proofs.PlaceLists.{step, is_minimal}
 use Rattle.wasm_codec.proofs.RawFormatLaws.{IsBytes-take}
 use Rattle.wasm_codec.proofs.Windows.{cut_first}
 
@@ -32,17 +32,17 @@ none_there {V} {F} r l s t fits none = by (F.at (place t l)) refl where
       let one = r.reads.sound (place t l) x.0 x.1 fits e in
       absurd (clash (F.at (place s l)) (x.0, place (keeps s one.prefix (F.bytes x.0)) x.1.left) none (ap (λ (k : List ℕ). F.at (place s k)) one.parts ∙ r.reads.complete one.prefix x.0 x.1.left s one.encodes))
 
--- where a value was read that was in its shortest encoding, its bytes stay
-pub kept_is : {V : Type 0} {F : Format V} → IsLawful F → (p : Rewriting) (v : V) (q : Place) → IsBytes p.place.left → F.at (place true p.place.left) ≡ Some (v, q) → q.shortest ≡ true → rewritten_at F p ≡ Some (v, skipped (length p.place.left - length q.left) p)
+-- where a value was read that was in its minimal encoding, its bytes stay
+pub kept_is : {V : Type 0} {F : Format V} → IsLawful F → (p : Rewriting) (v : V) (q : Place) → IsBytes p.place.left → F.at (place true p.place.left) ≡ Some (v, q) → q.minimal ≡ true → rewritten_at F p ≡ Some (v, skipped (length p.place.left - length q.left) p)
 kept_is {V} {F} r p v q fits e short =
     let l = p.place.left in
     let one = step r (place true l) v q fits e in
-    let same : one.prefix ≡ F.bytes v = is_shortest one.prefix (F.bytes v) (r.shortest.least one.prefix v one.encodes) (sym one.tells ∙ short) in
+    let same : one.prefix ≡ F.bytes v = is_minimal one.prefix (F.bytes v) (r.minimal.least one.prefix v one.encodes) (sym one.tells ∙ short) in
     let len : length one.prefix ≡ length l - length q.left = omega (arith, ap (length {A = ℕ}) one.parts, length-append one.prefix q.left) in
     let first : take (length l - length q.left) l ≡ F.bytes v = ap (take (length l - length q.left)) one.parts ∙ take_at one.prefix q.left (length l - length q.left) len ∙ same in
     let left : drop (length l - length q.left) l ≡ q.left = ap (drop (length l - length q.left)) one.parts ∙ drop_at one.prefix q.left (length l - length q.left) len in
-    let flag : keeps p.place.shortest one.prefix (F.bytes v) ≡ p.place.shortest = ap (λ (t : Bool). p.place.shortest && t) (sym one.tells ∙ short) ∙ and-true p.place.shortest in
-    let read : F.at p.place ≡ Some (v, place p.place.shortest q.left) = ap (λ (k : List ℕ). F.at (place p.place.shortest k)) one.parts ∙ r.reads.complete one.prefix v q.left p.place.shortest one.encodes ∙ ap (λ (t : Bool). Some (v, place t q.left)) flag in
+    let flag : keeps p.place.minimal one.prefix (F.bytes v) ≡ p.place.minimal = ap (λ (t : Bool). p.place.minimal && t) (sym one.tells ∙ short) ∙ and-true p.place.minimal in
+    let read : F.at p.place ≡ Some (v, place p.place.minimal q.left) = ap (λ (k : List ℕ). F.at (place p.place.minimal k)) one.parts ∙ r.reads.complete one.prefix v q.left p.place.minimal one.encodes ∙ ap (λ (t : Bool). Some (v, place t q.left)) flag in
     rw (read, first, left) refl
 
 -- where it wasn't, they are cut
@@ -51,17 +51,17 @@ pub record Cut {V : Type 0} (F : Format V) (p : Rewriting) (v : V) (q : Place) :
   pub fewer : length (F.bytes v) ≤ length p.place.left - length q.left
   pub within : length p.place.left - length q.left ≤ length p.place.left
 
-pub cut_is : {V : Type 0} {F : Format V} → IsLawful F → IsCut F.Encodes F.bytes → (p : Rewriting) (v : V) (q : Place) → IsBytes p.place.left → F.at (place true p.place.left) ≡ Some (v, q) → q.shortest ≡ false → Cut F p v q
+pub cut_is : {V : Type 0} {F : Format V} → IsLawful F → IsCut F.Encodes F.bytes → (p : Rewriting) (v : V) (q : Place) → IsBytes p.place.left → F.at (place true p.place.left) ≡ Some (v, q) → q.minimal ≡ false → Cut F p v q
 cut_is {V} {F} r cuts p v q fits e long =
     let l = p.place.left in
     let one = step r (place true l) v q fits e in
     let len : length one.prefix ≡ length l - length q.left = omega (arith, ap (length {A = ℕ}) one.parts, length-append one.prefix q.left) in
-    let le : length (F.bytes v) ≤ length one.prefix = not_longer one.prefix (F.bytes v) (r.shortest.least one.prefix v one.encodes) in
+    let le : length (F.bytes v) ≤ length one.prefix = not_longer one.prefix (F.bytes v) (r.minimal.least one.prefix v one.encodes) in
     let first : take (length one.prefix) l ≡ one.prefix = ap (take (length one.prefix)) one.parts ∙ take_at one.prefix q.left (length one.prefix) refl in
     let cut-here : cut (length (F.bytes v)) l ≡ F.bytes v = sym (cut_first (length (F.bytes v)) (length one.prefix) l le) ∙ ap (cut (length (F.bytes v))) first ∙ cuts one.prefix v one.encodes in
     let left : drop (length l - length q.left) l ≡ q.left = ap (drop (length l - length q.left)) one.parts ∙ drop_at one.prefix q.left (length l - length q.left) len in
-    let flag : keeps p.place.shortest one.prefix (F.bytes v) ≡ false = ap (λ (t : Bool). p.place.shortest && t) (sym one.tells ∙ long) ∙ and-false p.place.shortest in
-    let read : F.at p.place ≡ Some (v, place false q.left) = ap (λ (k : List ℕ). F.at (place p.place.shortest k)) one.parts ∙ r.reads.complete one.prefix v q.left p.place.shortest one.encodes ∙ ap (λ (t : Bool). Some (v, place t q.left)) flag in
+    let flag : keeps p.place.minimal one.prefix (F.bytes v) ≡ false = ap (λ (t : Bool). p.place.minimal && t) (sym one.tells ∙ long) ∙ and-false p.place.minimal in
+    let read : F.at p.place ≡ Some (v, place false q.left) = ap (λ (k : List ℕ). F.at (place p.place.minimal k)) one.parts ∙ r.reads.complete one.prefix v q.left p.place.minimal one.encodes ∙ ap (λ (t : Bool). Some (v, place t q.left)) flag in
     record { is = rw (read, cut-here, left) refl; fewer = omega (arith, len); within = omega (arith, len, ap (length {A = ℕ}) one.parts, length-append one.prefix q.left) }
 
 -- the same, without the value
@@ -70,39 +70,39 @@ without_value {V} F p v q e =
     let x = bind_some (F.at p.place) (λ x. Some (x.0, rewriting (p.done ++ F.bytes x.0) x.1 p.rest)) (v, q) e in
     rw x.1 (ap (λ (y : V × Rewriting). Some y.1) (some_is (x.0.0, rewriting (p.done ++ F.bytes x.0.0) x.0.1 p.rest) (v, q) x.2))
 
--- a number was read at these bytes; so many of them are left, and its shortest encoding has so many digits
-pub record NumberRead {V : Type 0} (F : Format V) (p : Rewriting) (v : V) (shortest : Bool) (left digits : ℕ) : Type 0 where
+-- a number was read at these bytes; so many of them are left, and its minimal encoding has so many digits
+pub record NumberRead {V : Type 0} (F : Format V) (p : Rewriting) (v : V) (minimal : Bool) (left digits : ℕ) : Type 0 where
   pub left_over : left ≤ length p.place.left
   pub fewer : digits ≤ length p.place.left - left
-  pub gives : rewritten_at F p ≡ Some (v, if shortest then skipped (length p.place.left - left) p else shortened digits (length p.place.left - left) p)
+  pub gives : rewritten_at F p ≡ Some (v, if minimal then skipped (length p.place.left - left) p else shortened digits (length p.place.left - left) p)
 
-pub number_read : {V : Type 0} {F : Format V} → IsLawful F → IsCut F.Encodes F.bytes → (p : Rewriting) (here : Place) (v : V) (q : Place) (shortest : Bool) (left digits : ℕ) → IsBytes p.place.left → here ≡ place true p.place.left → F.at here ≡ Some (v, q)
-    → shortest ≡ q.shortest → left ≡ length q.left → digits ≡ length (F.bytes v) → NumberRead F p v shortest left digits
-number_read {V} {F} r cuts p here v q shortest left digits fits here-is e shortest-is left-is digits-is =
+pub number_read : {V : Type 0} {F : Format V} → IsLawful F → IsCut F.Encodes F.bytes → (p : Rewriting) (here : Place) (v : V) (q : Place) (minimal : Bool) (left digits : ℕ) → IsBytes p.place.left → here ≡ place true p.place.left → F.at here ≡ Some (v, q)
+    → minimal ≡ q.minimal → left ≡ length q.left → digits ≡ length (F.bytes v) → NumberRead F p v minimal left digits
+number_read {V} {F} r cuts p here v q minimal left digits fits here-is e minimal-is left-is digits-is =
     let read : F.at (place true p.place.left) ≡ Some (v, q) = ap F.at (sym here-is) ∙ e in
     let one = step r (place true p.place.left) v q fits read in
     let parts = ap (length {A = ℕ}) one.parts in
-    let le : length (F.bytes v) ≤ length one.prefix = not_longer one.prefix (F.bytes v) (r.shortest.least one.prefix v one.encodes) in
+    let le : length (F.bytes v) ≤ length one.prefix = not_longer one.prefix (F.bytes v) (r.minimal.least one.prefix v one.encodes) in
     record {
       left_over = omega (arith, parts, length-append one.prefix q.left);
       fewer = omega (arith, parts, length-append one.prefix q.left);
-      gives = rw (shortest-is, left-is, digits-is) (by read q.shortest refl);
+      gives = rw (minimal-is, left-is, digits-is) (by read q.minimal refl);
     }
   where
-    by : F.at (place true p.place.left) ≡ Some (v, q) → (t : Bool) → q.shortest ≡ t → rewritten_at F p ≡ Some (v, if t then skipped (length p.place.left - length q.left) p else shortened (length (F.bytes v)) (length p.place.left - length q.left) p)
+    by : F.at (place true p.place.left) ≡ Some (v, q) → (t : Bool) → q.minimal ≡ t → rewritten_at F p ≡ Some (v, if t then skipped (length p.place.left - length q.left) p else shortened (length (F.bytes v)) (length p.place.left - length q.left) p)
     by read true t = kept_is r p v q fits read t
     by read false t = (cut_is r cuts p v q fits read t).is
 
 -- no number was
 pub no_number : {V : Type 0} {F : Format V} → IsLawful F → (p new : Rewriting) (here q : Place) (fault : Fault) → IsBytes p.place.left → here ≡ place true p.place.left → IsMalformed fault → Reads F.at here q (Err fault) → Gives F p new (Err fault)
 no_number {V} {F} r p new here q Memory fits here-is e none = absurd e
-no_number {V} {F} r p new here q (Malformed m) fits here-is e none = none_there r p.place.left true p.place.shortest fits (ap F.at (sym here-is) ∙ none)
+no_number {V} {F} r p new here q (Malformed m) fits here-is e none = none_there r p.place.left true p.place.minimal fits (ap F.at (sym here-is) ∙ none)
 
--- an item that was scanned is left in its shortest encoding
+-- an item that was scanned is left in its minimal encoding
 pub scanned_rewritten : {V : Type 0} {F : Format V} → IsLawful F → (p q : Rewriting) (left : List ℕ) → left ≡ p.place.left → IsBytes p.place.left → (s : Scanned) → Scans F left (Some s) → RewritesScanned s p q → rewriting_after F p ≡ Some q
 scanned_rewritten {V} {F} r p q left is fits s seen = by s (subst (λ (l : List ℕ). Scans F l (Some s)) is seen) where
   by : (s : Scanned) → Scans F p.place.left (Some s) → RewritesScanned s p q → rewriting_after F p ≡ Some q
-  by (scanned.Shortest count) (le, x) passed =
+  by (scanned.Minimal count) (le, x) passed =
       let k : length p.place.left - length (drop count p.place.left) ≡ count = omega (arith, length-drop count p.place.left) in
       let whole = kept_is r p x.0 (place true (drop count p.place.left)) fits x.1 refl in
       rw passed (without_value F p x.0 (skipped count p) (rw k at whole))
@@ -110,9 +110,9 @@ scanned_rewritten {V} {F} r p q left is fits s seen = by s (subst (λ (l : List 
       let count = start + more + 1 in
       let x = told kept k in
       let one = step r (place true p.place.left) x.value (place false (drop count p.place.left)) fits x.read in
-      let flag : keeps p.place.shortest one.prefix (F.bytes x.value) ≡ false = ap (λ (t : Bool). p.place.shortest && t) (sym one.tells) ∙ and-false p.place.shortest in
-      let read : F.at p.place ≡ Some (x.value, place false (drop count p.place.left)) = ap (λ (k : List ℕ). F.at (place p.place.shortest k)) one.parts ∙ r.reads.complete one.prefix x.value (drop count p.place.left) p.place.shortest one.encodes ∙ ap (λ (t : Bool). Some (x.value, place t (drop count p.place.left))) flag in
-      rw passed (without_value F p x.value (shortened (start + kept) count p) (rw (read, x.shortest) refl))
+      let flag : keeps p.place.minimal one.prefix (F.bytes x.value) ≡ false = ap (λ (t : Bool). p.place.minimal && t) (sym one.tells) ∙ and-false p.place.minimal in
+      let read : F.at p.place ≡ Some (x.value, place false (drop count p.place.left)) = ap (λ (k : List ℕ). F.at (place p.place.minimal k)) one.parts ∙ r.reads.complete one.prefix x.value (drop count p.place.left) p.place.minimal one.encodes ∙ ap (λ (t : Bool). Some (x.value, place t (drop count p.place.left))) flag in
+      rw passed (without_value F p x.value (shortened (start + kept) count p) (rw (read, x.minimal) refl))
 
 -- ---- runs of items
 
@@ -129,7 +129,7 @@ takes_some G some [] v g = absurd (some v g)
 takes_some G some (b ∷ prefix) v g = omega arith
 
 -- what is seen of the first bytes is seen of all of them
-pub in_window : {V : Type 0} {F : Format V} → IsLawful F → (bytes : List ℕ) (n count : ℕ) → IsBytes bytes → Scans F (take n bytes) (Some (scanned.Shortest count)) → Scans F bytes (Some (scanned.Shortest count))
+pub in_window : {V : Type 0} {F : Format V} → IsLawful F → (bytes : List ℕ) (n count : ℕ) → IsBytes bytes → Scans F (take n bytes) (Some (scanned.Minimal count)) → Scans F bytes (Some (scanned.Minimal count))
 in_window {V} {F} law bytes n count fits (le, x) =
     let w = take n bytes in
     let one = step law (place true w) x.0 (place true (drop count w)) (IsBytes-take bytes n fits) x.1 in
@@ -145,7 +145,7 @@ pub record LongerRun {V : Type 0} (F : Format V) (bytes : List ℕ) (run count :
   pub begins : BeginsShort F bytes (run + count)
   pub more : 0 < count
 
-pub longer_run : {V : Type 0} {F : Format V} → IsLawful F → TakesBytes F.Encodes → (bytes : List ℕ) (run n count : ℕ) → IsBytes bytes → BeginsShort F bytes run → Scans F (take n (drop run bytes)) (Some (scanned.Shortest count)) → LongerRun F bytes run count
+pub longer_run : {V : Type 0} {F : Format V} → IsLawful F → TakesBytes F.Encodes → (bytes : List ℕ) (run n count : ℕ) → IsBytes bytes → BeginsShort F bytes run → Scans F (take n (drop run bytes)) (Some (scanned.Minimal count)) → LongerRun F bytes run count
 longer_run {V} {F} law some bytes run n count fits b seen =
     let here = drop run bytes in
     let ahead = bytes_after (take run bytes) here (subst IsBytes (sym (take-append-drop run bytes)) fits) in

@@ -28,7 +28,7 @@ first_none F G p e = rw e refl
 pub second_none : {A B : Type 0} (F : Format A) (G : Format B) (p mid : Place) (a : A) → F.at p ≡ Some (a, mid) → G.at mid ≡ None → (F ⊗ G).at p ≡ None
 second_none F G p mid a e f = rw (e, f) refl
 
-pub sized_read : {A : Type 0} (F : Format A) (old outer end : Place) (body : List ℕ) (v : A) → body_at old ≡ Some (body, outer) → F.at (place outer.shortest body) ≡ Some (v, end) → end.left ≡ [] → (sized F).at old ≡ Some (v, place end.shortest outer.left)
+pub sized_read : {A : Type 0} (F : Format A) (old outer end : Place) (body : List ℕ) (v : A) → body_at old ≡ Some (body, outer) → F.at (place outer.minimal body) ≡ Some (v, end) → end.left ≡ [] → (sized F).at old ≡ Some (v, place end.minimal outer.left)
 sized_read F old outer end body v b e none =
     let all : at_end end.left ≡ true = ap at_end none in
     rw (b, e, all) refl
@@ -36,5 +36,5 @@ sized_read F old outer end body v b e none =
 pub size_none : {A : Type 0} (F : Format A) (old : Place) → body_at old ≡ None → (sized F).at old ≡ None
 size_none F old b = rw b refl
 
-pub sized_none : {A : Type 0} (F : Format A) (old outer : Place) (body : List ℕ) → body_at old ≡ Some (body, outer) → F.at (place outer.shortest body) ≡ None → (sized F).at old ≡ None
+pub sized_none : {A : Type 0} (F : Format A) (old outer : Place) (body : List ℕ) → body_at old ≡ Some (body, outer) → F.at (place outer.minimal body) ≡ None → (sized F).at old ≡ None
 sized_none F old outer body b e = rw (b, e) refl

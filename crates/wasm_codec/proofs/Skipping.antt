@@ -35,7 +35,7 @@ run_on F bytes items size more_items more first next =
     }
 
 -- one scanned item more
-pub run_scanned : {V : Type 0} (F : Format V) (bytes : List ℕ) (items size count : ℕ) → BeginsItems F bytes items size → Scans F (drop size bytes) (Some (scanned.Shortest count)) → BeginsItems F bytes (items + 1) (size + count)
+pub run_scanned : {V : Type 0} (F : Format V) (bytes : List ℕ) (items size count : ℕ) → BeginsItems F bytes items size → Scans F (drop size bytes) (Some (scanned.Minimal count)) → BeginsItems F bytes (items + 1) (size + count)
 run_scanned F bytes items size count begun (within, (v, read)) =
     run_on F bytes items size 1 count begun (record { values = v ∷ []; counted = refl; within = within; reads = (drop count (drop size bytes), (read, refl)) })
 

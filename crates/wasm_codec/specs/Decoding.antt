@@ -4,12 +4,12 @@ use Rattle.std.specs.Global.{Vec}
 use Rattle.wasm_codec.specs.declared.reader.ReadError.{ReadError}
 use Rattle.wasm_codec.specs.formats.Grammar.{Grammar}
 use Rattle.wasm_codec.specs.formats.Combinators.{Format}
-use Rattle.wasm_codec.specs.Encoding.{IsShortestOrLonger}
+use Rattle.wasm_codec.specs.Encoding.{IsMinimalOrLonger}
 use Rattle.wasm_codec.specs.Outcomes.{IsOrMemory, NeedsNoMemory, IfRefused, IsLongestPrefix, IsNormalForm, EncodesSome}
 
 -- This grammar takes exactly the minimal encodings of a format.
-abbrev pub IsMinimal : {V : Type 0} → Format V → Grammar V → Type 0
-IsMinimal {V} F Minimal = (bytes : List ℕ) (value : V) → Minimal bytes value ↔ (F.Encodes bytes value × (bytes ≡ F.bytes value))
+abbrev pub TakesMinimal : {V : Type 0} → Format V → Grammar V → Type 0
+TakesMinimal {V} F Minimal = (bytes : List ℕ) (value : V) → Minimal bytes value ↔ (F.Encodes bytes value × (bytes ≡ F.bytes value))
 
 -- ---- what an implementation of a call owes
 
@@ -63,7 +63,7 @@ pub record Decodes {X V : Type 0} (view : X → V) (F : Format V) (IsPrefix : Li
   -- The bytes encode at most one value.
   pub one : (value other : V) → F.Encodes bytes value → F.Encodes bytes other → value ≡ other
   -- Every other encoding of the value is longer than its minimal encoding.
-  pub shortest : (value : V) → F.Encodes bytes value → IsShortestOrLonger bytes (F.bytes value)
+  pub minimal : (value : V) → F.Encodes bytes value → IsMinimalOrLonger bytes (F.bytes value)
 
 -- What a strict reader promises, which reads a value from all of the bytes if they are its minimal encoding.
 pub record DecodesMinimal {X V : Type 0} (view : X → V) (F : Format V) (Minimal : Grammar V) (IsPrefix : List ℕ → Type 0) (bytes : List ℕ) (result : Result X ReadError) : Type 0 where
@@ -78,7 +78,7 @@ pub record DecodesMinimal {X V : Type 0} (view : X → V) (F : Format V) (Minima
   -- The bytes are the minimal encoding of at most one value.
   pub one : (value other : V) → Minimal bytes value → Minimal bytes other → value ≡ other
   -- They are the minimal encoding of a value if and only if they encode it and are as it is written.
-  pub shortest : (value : V) → Minimal bytes value ↔ (F.Encodes bytes value × (bytes ≡ F.bytes value))
+  pub minimal : (value : V) → Minimal bytes value ↔ (F.Encodes bytes value × (bytes ≡ F.bytes value))
 
 -- What a check promises: it accepts what the strict reader reads, and refuses the rest at the same offset.
 pub record Checks {V : Type 0} (F : Format V) (Minimal : Grammar V) (IsPrefix : List ℕ → Type 0) (bytes : List ℕ) (result : Result (Unit {0}) ReadError) : Type 0 where
@@ -89,7 +89,7 @@ pub record Checks {V : Type 0} (F : Format V) (Minimal : Grammar V) (IsPrefix : 
   -- It refuses only bytes that are no minimal encoding.
   pub unencoded : IfRefused result (λ _. (value : V) → Minimal bytes value → ⊥)
   -- Bytes are the minimal encoding of a value if and only if they encode it and are as it is written.
-  pub shortest : (value : V) → Minimal bytes value ↔ (F.Encodes bytes value × (bytes ≡ F.bytes value))
+  pub minimal : (value : V) → Minimal bytes value ↔ (F.Encodes bytes value × (bytes ≡ F.bytes value))
 
 -- What a call promises that rewrites bytes to their minimal encoding. `encoding` is where its result has it.
 pub record NormalisesTo {X V : Type 0} (F : Format V) (IsPrefix : List ℕ → Type 0) (bytes : List ℕ) (encoding : X → List ℕ) (result : Result X ReadError) : Type 0 where
@@ -130,10 +130,10 @@ pub record Normalises {V : Type 0} (F : Format V) (Minimal : Grammar V) (IsPrefi
   -- The result is the minimal encoding of what it encodes.
   pub normal : IfOk result (λ encoding. (value : V) → F.Encodes encoding.items value → encoding.items ≡ F.bytes value)
   -- Every other encoding of the value is longer than its minimal encoding.
-  pub shortest : (value : V) → F.Encodes bytes value → IsShortestOrLonger bytes (F.bytes value)
+  pub minimal : (value : V) → F.Encodes bytes value → IsMinimalOrLonger bytes (F.bytes value)
   -- The result is no longer than the bytes.
   pub no_longer : IfOk result (λ encoding. length encoding.items ≤ length bytes)
   -- A minimal encoding stays as it is, unless memory ran out.
   pub stays : (value : V) → Minimal bytes value → IsOrMemory (λ encoding. encoding.items) bytes result
   -- Bytes that stay as they are were a minimal encoding.
-  pub was_shortest : IfOk result (λ encoding. encoding.items ≡ bytes → EncodesSome Minimal bytes)
+  pub was_minimal : IfOk result (λ encoding. encoding.items ≡ bytes → EncodesSome Minimal bytes)

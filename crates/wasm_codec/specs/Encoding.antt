@@ -53,10 +53,10 @@ abbrev pub CanEncodeList : {T : Type 0} → (T → Type 0) → List T → Type 0
 CanEncodeList Can xs = IsCount (length xs) × All Can xs
 
 -- The bytes are this encoding, or they are longer.
-abbrev pub IsShortestOrLonger : List ℕ → List ℕ → Type 0
-IsShortestOrLonger bytes encoding = (bytes ≡ encoding) ⊎ (length encoding < length bytes)
+abbrev pub IsMinimalOrLonger : List ℕ → List ℕ → Type 0
+IsMinimalOrLonger bytes encoding = (bytes ≡ encoding) ⊎ (length encoding < length bytes)
 
 -- The written bytes encode the value, and every other encoding of it is longer.
-pub record IsShortest {V : Type 0} (G : Grammar V) (encoding : V → List ℕ) (v : V) : Type 0 where
+pub record IsMinimal {V : Type 0} (G : Grammar V) (encoding : V → List ℕ) (v : V) : Type 0 where
   pub encodes : G (encoding v) v
-  pub least : (bytes : List ℕ) → G bytes v → IsShortestOrLonger bytes (encoding v)
+  pub least : (bytes : List ℕ) → G bytes v → IsMinimalOrLonger bytes (encoding v)

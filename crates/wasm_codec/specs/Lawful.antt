@@ -1,16 +1,16 @@
 -- The laws that are proved of every format of the library.
 use Rattle.std.specs.Prelude.{◌≡◌, ℕ, Bool, true, List, [], ◌∷◌, ◌++◌, Option, Some, None}
 use Rattle.wasm_codec.specs.formats.Grammar.{Grammar, IsBytes}
-use Rattle.wasm_codec.specs.Encoding.{IsShortestOrLonger}
+use Rattle.wasm_codec.specs.Encoding.{IsMinimalOrLonger}
 use Rattle.wasm_codec.specs.Reading.{◌>>=◌, BeginsWith, PlainReader}
 use Rattle.wasm_codec.specs.Places.{Place, place, Reader, keeps}
 use Rattle.wasm_codec.specs.formats.Combinators.{Format}
 
 -- For each value that fits or has an encoding, the written bytes encode it, and every other encoding is longer.
-pub record Shortest {V : Type 0} (G : Grammar V) (Fits : V → Type 0) (encoding : V → List ℕ) : Type 0 where
+pub record WritesMinimally {V : Type 0} (G : Grammar V) (Fits : V → Type 0) (encoding : V → List ℕ) : Type 0 where
   pub encodes : (v : V) → Fits v → G (encoding v) v
   pub again : (bytes : List ℕ) (v : V) → G bytes v → G (encoding v) v
-  pub least : (bytes : List ℕ) (v : V) → G bytes v → IsShortestOrLonger bytes (encoding v)
+  pub least : (bytes : List ℕ) (v : V) → G bytes v → IsMinimalOrLonger bytes (encoding v)
 
 -- The first byte, if there is one.
 abbrev pub head_of : List ℕ → Option ℕ
@@ -27,7 +27,7 @@ pub record IsLawful {V : Type 0} (F : Format V) : Type 0 where
   -- it reads what the bytes encode, and the place tells whether their encoding was minimal
   pub reads : ReadsPlaces F.Encodes F.bytes F.at
   -- the written bytes encode the value, and every other encoding is longer
-  pub shortest : Shortest F.Encodes F.InRange F.bytes
+  pub minimal : WritesMinimally F.Encodes F.InRange F.bytes
   -- a value that has an encoding is in range
   pub in_range : (bytes : List ℕ) (v : V) → F.Encodes bytes v → F.InRange v
   -- encodings consist of bytes
@@ -53,6 +53,6 @@ pub record ReadsToEnd {V : Type 0} (G : Grammar V) (bytes : V → List ℕ) (rea
 -- The law of a format whose encodings go to the end of the bytes.
 pub record IsLawfulBody {V : Type 0} (F : Format V) : Type 0 where
   pub reads : ReadsToEnd F.Encodes F.bytes F.at
-  pub shortest : Shortest F.Encodes F.InRange F.bytes
+  pub minimal : WritesMinimally F.Encodes F.InRange F.bytes
   pub in_range : (bytes : List ℕ) (v : V) → F.Encodes bytes v → F.InRange v
   pub are_bytes : (bytes : List ℕ) (v : V) → F.Encodes bytes v → IsBytes bytes

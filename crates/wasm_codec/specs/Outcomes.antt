@@ -133,7 +133,7 @@ EncodesSome {V} G bytes = (v : V) × G bytes v
 pub record IsNormalForm {V : Type 0} (G : Grammar V) (encoding_of : V → List ℕ) (bytes encoding : List ℕ) : Type 0 where
   pub value : V
   pub encoded : G bytes value
-  pub is_shortest : encoding ≡ encoding_of value
+  pub is_minimal : encoding ≡ encoding_of value
 
 -- ---- inside the input
 

@@ -11,11 +11,11 @@ pub record Place : Type 0 where
   -- the bytes that are left
   pub left : List ℕ
   -- everything read so far was minimally encoded
-  pub shortest : Bool
+  pub minimal : Bool
 
 -- The place with these bytes left, and this answer about the encodings read so far.
 abbrev pub place : Bool → List ℕ → Place
-place shortest left = record { left = left; shortest = shortest }
+place minimal left = record { left = left; minimal = minimal }
 
 -- A reading function: the value at a place and the place after it, or none.
 abbrev pub Reader : Type 0 → Type 0
@@ -29,25 +29,25 @@ Reads read old new (Err faults.Memory) = Unit {0}
 
 -- Everything read so far was minimal, and so was this prefix: it is as long as the minimal encoding.
 abbrev pub keeps : Bool → List ℕ → List ℕ → Bool
-keeps shortest prefix bytes = shortest && (length prefix == length bytes)
+keeps minimal prefix bytes = minimal && (length prefix == length bytes)
 
 -- If `strict`, everything read so far was minimally encoded.
 abbrev pub WasMinimalIf : Bool → Place → Type 0
-WasMinimalIf true p = p.shortest ≡ true
+WasMinimalIf true p = p.minimal ≡ true
 WasMinimalIf false p = Unit {0}
 
 -- The same place, but not minimally encoded so far if a long form was read.
 abbrev pub unless : Bool → Place → Place
-unless long p = place (p.shortest && not long) p.left
+unless long p = place (p.minimal && not long) p.left
 
 -- The first of the bytes, and the place after it.
 abbrev pub byte_from : Bool → List ℕ → Option (ℕ × Place)
-byte_from shortest [] = None
-byte_from shortest (b ∷ bytes) = Some (b, place shortest bytes)
+byte_from minimal [] = None
+byte_from minimal (b ∷ bytes) = Some (b, place minimal bytes)
 
 -- Reads one byte.
 unfoldable pub byte_at : Reader ℕ
-byte_at p = byte_from p.shortest p.left
+byte_at p = byte_from p.minimal p.left
 
 -- The call returns the byte at its place and doesn't move.
 abbrev pub Sees : Place → Result ℕ Fault → Type 0
@@ -100,7 +100,7 @@ only_at (Some a) p = Some (a, p)
 
 -- Reads this number of bytes.
 unfoldable pub raw_at : ℕ → Reader (List ℕ)
-raw_at count p = if nat_lt (length p.left) count then None else Some (take count p.left, place p.shortest (drop count p.left))
+raw_at count p = if nat_lt (length p.left) count then None else Some (take count p.left, place p.minimal (drop count p.left))
 
 -- Reads this number of values.
 unfoldable pub times_at : {A : Type 0} → Reader A → ℕ → Reader (List A)
@@ -123,7 +123,7 @@ abbrev pub number_at : {V : Type 0} → ℕ → (List ℕ → Option V) → (V �
 number_at most value bytes p = do
   digits ← digits_at most p.left
   v ← value digits.0
-  Some (v, place (keeps p.shortest digits.0 (bytes v)) digits.1)
+  Some (v, place (keeps p.minimal digits.0 (bytes v)) digits.1)
 
 -- Reads a u32, and tells whether it was minimal.
 unfoldable pub u32_at : Reader ℕ

@@ -12,7 +12,7 @@ use Rattle.wasm_codec.specs.Places.{Place, place}
 pub record Read (most : ℕ) (old new : Place) (n unit end : ℕ) : Type 0 where
   pub digits : List ℕ
   pub reads : digits_at most old.left ≡ Some (digits, new.left)
-  pub keeps : new.shortest ≡ old.shortest
+  pub keeps : new.minimal ≡ old.minimal
   pub short : length digits ≤ most
   pub value_is : n ≡ unsigned digits
   pub unit_is : unit ≡ 128 ^ length digits
@@ -36,7 +36,7 @@ ReadsManyDigits most old new (Err faults.Memory) = Unit {0}
 
 -- The call reads a number of one byte, or it reads nothing.
 abbrev pub ReadsOne : Place → Place → Option ℕ → Type 0
-ReadsOne old new (Some b) = (b < 128) × (old ≡ place new.shortest (b ∷ new.left))
+ReadsOne old new (Some b) = (b < 128) × (old ≡ place new.minimal (b ∷ new.left))
 ReadsOne old new None = new ≡ old
 
 -- Fewer digits wouldn't do: the last stands for a number below `top`, and `unit` is 128 to their number.

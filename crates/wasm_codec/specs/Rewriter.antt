@@ -70,7 +70,7 @@ Rewrites F old new (Err faults.Memory) = ⊥
 
 -- The rewriting after this number of bytes was kept as it is.
 abbrev pub skipped : ℕ → Rewriting → Rewriting
-skipped count r = rewriting (r.done ++ take count r.place.left) (place r.place.shortest (drop count r.place.left)) r.rest
+skipped count r = rewriting (r.done ++ take count r.place.left) (place r.place.minimal (drop count r.place.left)) r.rest
 
 -- The first bytes, the last of them without its high bit.
 abbrev pub cut : ℕ → List ℕ → List ℕ
@@ -93,11 +93,11 @@ with_byte mark byte r = rewriting (set r.done mark byte) r.place r.rest
 
 -- The rewriting whose end comes after this number of bytes.
 abbrev pub limited : ℕ → Rewriting → Rewriting
-limited size r = rewriting r.done (place r.place.shortest (take size r.place.left)) (rest_of (drop size r.place.left ++ r.rest.bytes) r.rest.name)
+limited size r = rewriting r.done (place r.place.minimal (take size r.place.left)) (rest_of (drop size r.place.left ++ r.rest.bytes) r.rest.name)
 
 -- The rewriting that goes on with this number of bytes after its end.
 abbrev pub widened : ℕ → Rewriting → Rewriting
-widened size r = rewriting r.done (place r.place.shortest (take size r.rest.bytes)) (rest_of (drop size r.rest.bytes) r.rest.name)
+widened size r = rewriting r.done (place r.place.minimal (take size r.rest.bytes)) (rest_of (drop size r.rest.bytes) r.rest.name)
 
 -- The rewriting after the digits at a mark became the number of the bytes behind them.
 abbrev pub resized : ℕ → ℕ → Rewriting → Rewriting
@@ -111,7 +111,7 @@ done_of bytes written from position = take written bytes ++ take (position - fro
 
 -- The rewriting that the bytes of a list stand for.
 abbrev pub seen : List ℕ → ℕ → ℕ → ℕ → ℕ → Bool → GName → Rewriting
-seen bytes written from position end shortest name = rewriting (done_of bytes written from position) (place shortest (take (end - position) (drop position bytes))) (rest_of (drop end bytes) name)
+seen bytes written from position end minimal name = rewriting (done_of bytes written from position) (place minimal (take (end - position) (drop position bytes))) (rest_of (drop end bytes) name)
 
 -- The bytes that were written to the start of the slice.
 abbrev pub written_of : Finished → List ℕ
@@ -124,7 +124,7 @@ pub record IsOpen (old new : Rewriting) (mark size behind : ℕ) : Type 0 where
   pub body : List ℕ
   pub after : Place
   pub is_read : body_at old.place ≡ Some (body, after)
-  pub within : new ≡ rewriting (old.done ++ unsigned_leb128 (length body)) (place after.shortest body) (rest_of (after.left ++ old.rest.bytes) old.rest.name)
+  pub within : new ≡ rewriting (old.done ++ unsigned_leb128 (length body)) (place after.minimal body) (rest_of (after.left ++ old.rest.bytes) old.rest.name)
   pub mark_is : mark ≡ length old.done
   pub size_is : size ≡ length body
   pub behind_is : behind ≡ length after.left

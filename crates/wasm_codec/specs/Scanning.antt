@@ -55,7 +55,7 @@ pub record IsPaddedNumber (signed : Bool) (most : ℕ) (bytes : List ℕ) (befor
 -- The call tells truly whether the bytes begin with a minimal or with a padded number.
 abbrev pub ScansDigits : Bool → ℕ → ℕ → List ℕ → Option Scanned → Type 0
 ScansDigits signed most top bytes None = Unit {0}
-ScansDigits signed most top bytes (Some (scanned.Shortest count)) = IsShortNumber signed most top bytes count
+ScansDigits signed most top bytes (Some (scanned.Minimal count)) = IsShortNumber signed most top bytes count
 ScansDigits signed most top bytes (Some (scanned.Padded sign start more)) = (sign ≡ signed) × (start ≡ 0) × IsPaddedNumber signed most bytes more
 
 -- Bytes below 128: each is a number of one byte.
@@ -68,16 +68,16 @@ AreLow = AllByRecursion (λ b. b < 128)
 pub record IsPadded {V : Type 0} (F : Format V) (bytes : List ℕ) (kept count : ℕ) : Type 0 where
   pub value : V
   pub read : F.at (place true bytes) ≡ Some (value, place false (drop count bytes))
-  pub shortest : cut kept bytes ≡ F.bytes value
+  pub minimal : cut kept bytes ≡ F.bytes value
 
 -- The item lies within this number of bytes.
 abbrev pub IsWithin : Scanned → ℕ → Type 0
-IsWithin (scanned.Shortest count) n = count ≤ n
+IsWithin (scanned.Minimal count) n = count ≤ n
 IsWithin (scanned.Padded signed start more) n = (0 < more) × (start + more < n)
 
 -- The scan describes the value that the bytes begin with.
 abbrev pub Tells : {V : Type 0} → Format V → List ℕ → Scanned → Type 0
-Tells {V} F bytes (scanned.Shortest count) = (v : V) × (F.at (place true bytes) ≡ Some (v, place true (drop count bytes)))
+Tells {V} F bytes (scanned.Minimal count) = (v : V) × (F.at (place true bytes) ≡ Some (v, place true (drop count bytes)))
 Tells F bytes (scanned.Padded signed start more) = (kept : ℕ) → KeepsDigits signed (drop start bytes) more kept → IsPadded F bytes (start + kept) (start + more + 1)
 
 -- If the call scans an item, it describes the value that the bytes begin with.
@@ -87,12 +87,12 @@ Scans F bytes (Some s) = IsWithin s (length bytes) × Tells F bytes s
 
 -- The same item behind one more byte.
 abbrev pub behind_byte : Scanned → Scanned
-behind_byte (scanned.Shortest count) = scanned.Shortest (1 + count)
+behind_byte (scanned.Minimal count) = scanned.Minimal (1 + count)
 behind_byte (scanned.Padded signed start more) = scanned.Padded signed (1 + start) more
 
 -- The call leaves the scanned item minimally encoded.
 abbrev pub RewritesScanned : Scanned → Rewriting → Rewriting → Type 0
-RewritesScanned (scanned.Shortest count) old new = new ≡ skipped count old
+RewritesScanned (scanned.Minimal count) old new = new ≡ skipped count old
 RewritesScanned (scanned.Padded signed start more) old new = (kept : ℕ) × (KeepsDigits signed (drop start old.place.left) more kept × (new ≡ shortened (start + kept) (start + more + 1) old))
 
 -- ---- runs of items

@@ -78,7 +78,7 @@ pub struct Rewriter<'a> {
     from: usize,
     position: usize,
     end: usize,
-    shortest: bool,
+    minimal: bool,
     /// Number of bytes from the size of the innermost body up to the end of the input. `None` outside of bodies.
     body: Option<usize>,
     /// One more than the offset of the first bytes that weren't minimally encoded. 0 means that there are none.
@@ -95,7 +95,7 @@ impl<'a> Model for Rewriter<'a> {
 
     ghost Value = { Rewriting };
 
-    ghost view = { λ r. seen r.bytes.now r.written r.from r.position r.end r.shortest r.bytes.ghost_name };
+    ghost view = { λ r. seen r.bytes.now r.written r.from r.position r.end r.minimal r.bytes.ghost_name };
 
     ghost invariant = { λ r. (r.written ≤ r.from) × (r.from ≤ r.position) × (r.position ≤ r.end) × (r.end ≤ length r.bytes.now) };
 }
@@ -112,7 +112,7 @@ impl<'a> Rewriter<'a> {
             from: 0,
             position: 0,
             end,
-            shortest: true,
+            minimal: true,
             body: None,
             first_longer: 0,
             longer: None,
@@ -132,7 +132,7 @@ impl<'a> Rewriter<'a> {
             from,
             position,
             end: _,
-            shortest: _,
+            minimal: _,
             body: _,
             first_longer: _,
             longer: _,
@@ -293,14 +293,14 @@ impl<'a> Rewriter<'a> {
         ensures { RewritesScanned scanned self.old self.new }
     {
         match scanned {
-            Scanned::Shortest(count) => self.skip(count),
+            Scanned::Minimal(count) => self.skip(count),
             Scanned::Padded {
                 signed,
                 start,
                 more,
             } => {
                 let kept = kept_digits(&self.left()[start..], signed, more);
-                if self.shortest {
+                if self.minimal {
                     self.shorten_first(start + kept, start + more + 1);
                 } else {
                     self.shorten_more(start + kept, start + more + 1);
@@ -362,7 +362,7 @@ impl<'a> Rewriter<'a> {
         self.bytes[last] %= 128;
         self.from = next;
         self.position = next;
-        self.shortest = false;
+        self.minimal = false;
     }
 
     /// Returns the number of bytes written.
@@ -391,7 +391,7 @@ impl<'a> Rewriter<'a> {
         self.bytes.copy_within(mark + count..end, mark);
         self.written = end - count;
         self.from = self.position;
-        self.shortest = false;
+        self.minimal = false;
     }
 
     /// Overwrites the byte that was written at offset `mark`.
@@ -489,8 +489,8 @@ impl<'a> Rewriter<'a> {
     {
         let mut cursor = self.cursor();
         let value = cursor.u32()?;
-        let (shortest, left) = (cursor.is_shortest(), cursor.len());
-        if shortest {
+        let (minimal, left) = (cursor.is_minimal(), cursor.len());
+        if minimal {
             self.skip(self.len() - left);
         } else {
             self.shorten(unsigned_digit_count(u64::from(value)), self.len() - left);
@@ -504,8 +504,8 @@ impl<'a> Rewriter<'a> {
     {
         let mut cursor = self.cursor();
         let value = cursor.u64()?;
-        let (shortest, left) = (cursor.is_shortest(), cursor.len());
-        if shortest {
+        let (minimal, left) = (cursor.is_minimal(), cursor.len());
+        if minimal {
             self.skip(self.len() - left);
         } else {
             self.shorten(unsigned_digit_count(value), self.len() - left);
@@ -519,8 +519,8 @@ impl<'a> Rewriter<'a> {
     {
         let mut cursor = self.cursor();
         let value = cursor.s32()?;
-        let (shortest, left) = (cursor.is_shortest(), cursor.len());
-        if shortest {
+        let (minimal, left) = (cursor.is_minimal(), cursor.len());
+        if minimal {
             self.skip(self.len() - left);
         } else {
             self.shorten(s32_digit_count(value), self.len() - left);
@@ -534,8 +534,8 @@ impl<'a> Rewriter<'a> {
     {
         let mut cursor = self.cursor();
         let value = cursor.s64()?;
-        let (shortest, left) = (cursor.is_shortest(), cursor.len());
-        if shortest {
+        let (minimal, left) = (cursor.is_minimal(), cursor.len());
+        if minimal {
             self.skip(self.len() - left);
         } else {
             self.shorten(signed_digit_count(value), self.len() - left);
@@ -549,8 +549,8 @@ impl<'a> Rewriter<'a> {
     {
         let mut cursor = self.cursor();
         let value = cursor.index()?;
-        let (shortest, left) = (cursor.is_shortest(), cursor.len());
-        if shortest {
+        let (minimal, left) = (cursor.is_minimal(), cursor.len());
+        if minimal {
             self.skip(self.len() - left);
         } else {
             self.shorten(index_digit_count(value), self.len() - left);

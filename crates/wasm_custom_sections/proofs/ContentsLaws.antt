@@ -24,11 +24,11 @@ use Rattle.wasm_code.proofs.ModuleFormatLaws.{Lawful-raw-module, Lawful-raw-sect
 use Rattle.wasm_code.proofs.SectionWalks.{next_section, no_section, none_left, section_takes}
 use Rattle.wasm_sections.specs.formats.EntryParts.{CustomParts}
 use Rattle.wasm_sections.specs.formats.ModuleSectionParts.{custom}
-use Rattle.wasm_sections.specs.formats.ModuleSections.{KeepsMinimal, ShortestWholeModule, module_section}
+use Rattle.wasm_sections.specs.formats.ModuleSections.{IsMinimalSection, KeepsMinimal, MinimalWholeModule, module_section}
 use Rattle.wasm_sections.specs.formats.Sections.{custom_body}
 use Rattle.wasm_sections.proofs.CustomLaws.{custom_is_lawful}
 use Rattle.wasm_sections.proofs.ModuleSectionLaws.{custom_kind, module_section_is_lawful}
-use Rattle.wasm_sections.proofs.RawSections.{IsMinimalSection, raw_sections, whole_again}
+use Rattle.wasm_sections.proofs.RawSections.{raw_sections, whole_again}
 use Rattle.wasm_custom_sections.specs.MinimalContents.{AreMinimised, none, more, DecodesNext, HasContents, HasMinimalContents, IsDecodedAs, IsMinimised, Minimises, MinimisesContents, MinimisesNext, WritesNext, section_with, Minimising, MinimisesSoFar}
 use Rattle.wasm_custom_sections.specs.NamedSections.{named}
 use Rattle.wasm_custom_sections.specs.declared.contents.Decoded.{Decoded}
@@ -124,17 +124,17 @@ module _ {V : Type 0} {F : Format V} (r : IsLawfulBody F) where
         let inside = subst (λ (c : CustomParts). F.Encodes c.data_bytes h.value) same h.contents.1 in
         let value : v.1.1 ≡ h.value = sym (encodes_one r raw.contents h.value v.1.1 inside raw.decodes) in
         let called : v.1.0 ≡ text = sym (ap (λ (c : CustomParts). c.name) same) ∙ h.contents.0 in
-        let there = Lawful-raw-section.reads.complete b.prefix s new.place.left old.place.shortest raw.encodes in
+        let there = Lawful-raw-section.reads.complete b.prefix s new.place.left old.place.minimal raw.encodes in
         let minimal : SectionParts = record { id = 0; body = custom_body.bytes (named text (F.bytes h.value)) } in
         let bytes = (section_with F).bytes v in
         let minimal_is : bytes ≡ raw_section.bytes minimal = bytes_are v text h.value (sym raw.id_is ∙ h.is_custom) called value in
-        let shorter : length bytes ≤ length b.prefix = not_longer b.prefix bytes ((section_is_lawful r).shortest.least b.prefix v b.encodes) in
+        let shorter : length bytes ≤ length b.prefix = not_longer b.prefix bytes ((section_is_lawful r).minimal.least b.prefix v b.encodes) in
         let read : length old.place.left ≡ length b.prefix + length new.place.left = ap (length {A = ℕ}) b.parts ∙ length-append b.prefix new.place.left in
         let wrote : length new.done ≡ length old.done + length bytes = ap (length {A = ℕ}) one.given.written ∙ length-append old.done bytes in
         record {
           section = s;
-          after = place (keeps old.place.shortest b.prefix (raw_section.bytes s)) new.place.left;
-          is_read = ap (λ (l : List ℕ). raw_section.at (place old.place.shortest l)) b.parts ∙ there;
+          after = place (keeps old.place.minimal b.prefix (raw_section.bytes s)) new.place.left;
+          is_read = ap (λ (l : List ℕ). raw_section.at (place old.place.minimal l)) b.parts ∙ there;
           minimal = minimal;
           minimised = is_minimised s minimal (record { has = h; is = refl });
           written = one.given.written ∙ ap (λ (t : List ℕ). old.done ++ t) minimal_is;
@@ -154,7 +154,7 @@ module _ {V : Type 0} {F : Format V} (r : IsLawfulBody F) where
           let h = has x.0 (place (keeps true b.prefix (raw_section.bytes x.0)) x.1.left) plain in
           let g = with_contents b.prefix x.0 h.custom h.value b.encodes h.holds h.contents.1 in
           let v : ℕ × (List ℕ × V) = (x.0.id, (h.custom.name, h.value)) in
-          let read = ap (λ (l : List ℕ). (section_with F).at (place old.place.shortest l)) b.parts ∙ (section_is_lawful r).reads.complete b.prefix v x.1.left old.place.shortest g in
+          let read = ap (λ (l : List ℕ). (section_with F).at (place old.place.minimal l)) b.parts ∙ (section_is_lawful r).reads.complete b.prefix v x.1.left old.place.minimal g in
           absurd (clash (sym unread ∙ read))
 
     pub typed_written : (result : Result (Unit {0}) Fault) → Rewrites (section_with F) old new result → MinimisesNext old new result
@@ -178,7 +178,7 @@ other_written old new fits (Ok done) has e =
     let b = Lawful-raw-section.reads.sound old.place one.value new.place fits one.given.is_read in
     let plain = ap (λ (l : List ℕ). raw_section.at (place true l)) b.parts ∙ Lawful-raw-section.reads.complete b.prefix one.value new.place.left true b.encodes in
     let bytes = raw_section.bytes one.value in
-    let shorter : length bytes ≤ length b.prefix = not_longer b.prefix bytes (Lawful-raw-section.shortest.least b.prefix one.value b.encodes) in
+    let shorter : length bytes ≤ length b.prefix = not_longer b.prefix bytes (Lawful-raw-section.minimal.least b.prefix one.value b.encodes) in
     let read : length old.place.left ≡ length b.prefix + length new.place.left = ap (length {A = ℕ}) b.parts ∙ length-append b.prefix new.place.left in
     let wrote : length new.done ≡ length old.done + length bytes = ap (length {A = ℕ}) one.given.written ∙ length-append old.done bytes in
     let others = has one.value (place (keeps true b.prefix (raw_section.bytes one.value)) new.place.left) plain in
@@ -262,16 +262,16 @@ module _ (bytes module_bytes : List ℕ) (normal : IsNormalForm raw_module.Encod
   pub given_minimal : (minimal : List ℕ) → MinimisesContents module_bytes minimal → (sections : List SectionParts) × raw_module.Encodes bytes sections × HasMinimalContents sections minimal (length bytes)
   given_minimal minimal h =
       let sections = normal.value in
-      let again = Lawful-raw-module.shortest.again bytes sections normal.encoded in
-      let has = h sections (subst (λ (t : List ℕ). raw_module.Encodes t sections) (sym normal.is_shortest) again) in
-      let short = not_longer bytes (raw_module.bytes sections) (Lawful-raw-module.shortest.least bytes sections normal.encoded) in (
+      let again = Lawful-raw-module.minimal.again bytes sections normal.encoded in
+      let has = h sections (subst (λ (t : List ℕ). raw_module.Encodes t sections) (sym normal.is_minimal) again) in
+      let short = not_longer bytes (raw_module.bytes sections) (Lawful-raw-module.minimal.least bytes sections normal.encoded) in (
         sections,
         normal.encoded,
         record {
           minimal = has.minimal;
           minimised = has.minimised;
           written = has.written;
-          no_longer = omega (arith, has.no_longer, short, ap (length {A = ℕ}) normal.is_shortest);
+          no_longer = omega (arith, has.no_longer, short, ap (length {A = ℕ}) normal.is_minimal);
         },
       )
 
@@ -289,15 +289,15 @@ named_minimal {V} {F} r text s m k fits =
     let minimal = F.bytes has.value in
     let c : CustomParts = named text minimal in
     let encoded : F.Encodes has.custom.data_bytes has.value = has.contents.1 in
-    let are : IsBytes minimal = r.are_bytes minimal has.value (r.shortest.again has.custom.data_bytes has.value encoded) in
+    let are : IsBytes minimal = r.are_bytes minimal has.value (r.minimal.again has.custom.data_bytes has.value encoded) in
     let called : name.InRange text = subst name.InRange has.contents.0 (custom_is_lawful.in_range s.body has.custom has.holds).0.0 in
-    let shorter = not_longer has.custom.data_bytes minimal (r.shortest.least has.custom.data_bytes has.value encoded) in
-    let body = not_longer s.body (custom_body.bytes has.custom) (custom_is_lawful.shortest.least s.body has.custom has.holds) in
+    let shorter = not_longer has.custom.data_bytes minimal (r.minimal.least has.custom.data_bytes has.value encoded) in
+    let body = not_longer s.body (custom_body.bytes has.custom) (custom_is_lawful.minimal.least s.body has.custom has.holds) in
     let old = length-append (name.bytes has.custom.name) has.custom.data_bytes in
     let new = length-append (name.bytes text) minimal in
     let same = ap (λ (t : List ℕ). length (name.bytes t)) has.contents.0 in
     let short : length (custom_body.bytes c) < 2 ^ 32 = omega (arith, shorter, body, old, new, same, fits.0.1.1) in
-    let encodes : module_section.Encodes (module_section.bytes (custom c)) (custom c) = module_section_is_lawful.shortest.encodes (custom c) (in_range c (((called, are), refl), short)) in
+    let encodes : module_section.Encodes (module_section.bytes (custom c)) (custom c) = module_section_is_lawful.minimal.encodes (custom c) (in_range c (((called, are), refl), short)) in
     rw k.is (custom c, subst (λ (b : List ℕ). (minimal_only module_section).Encodes b (custom c)) (custom_kind.bytes_are c) (encodes, refl))
 
 one_minimal : (s m : SectionParts) → IsMinimised s m → raw_section.InRange s → IsMinimalSection s → IsMinimalSection m
@@ -315,4 +315,4 @@ minimal_contents bytes result h g =
     let raw = raw_sections bytes g in
     let w = h raw.sections raw.encodes in
     let fits = Lawful-raw-module.in_range bytes raw.sections raw.encodes in
-    subst (EncodesSome ShortestWholeModule) (sym w.written) (whole_again w.minimal (all_minimal w.minimised fits raw.minimal))
+    subst (EncodesSome MinimalWholeModule) (sym w.written) (whole_again w.minimal (all_minimal w.minimised fits raw.minimal))

@@ -3,7 +3,7 @@ use Rattle.std.proofs.Common.{◌≡◌, ℕ, ◌+◌, ◌<◌, ◌≤◌, ◌^�
 use Rattle.std.specs.List.{All}
 use Rattle.wasm_codec.specs.declared.encode.EncodeError.{EncodeError}
 use Rattle.wasm_codec.specs.declared.encode.EncodeError.TheVariants.{Memory, TooLong}
-use Rattle.wasm_codec.specs.Encoding.{IsCount, IsShortest}
+use Rattle.wasm_codec.specs.Encoding.{IsCount, IsMinimal}
 use Rattle.wasm_codec.specs.Lawful.{IsLawful, IsLawfulBody}
 use Rattle.wasm_codec.specs.Leb128.{unsigned_leb128}
 use Rattle.wasm_codec.specs.Lists.{items_bytes}
@@ -45,15 +45,15 @@ core_name_there : (text : List ℕ) → name.InRange text → core_name.InRange 
 unfolding core_name
 core_name_there text fits = fits
 
-pub core_name_written : (text : List ℕ) → IsShortest name.Encodes name.bytes text → IsShortest core_name.Encodes core_name.bytes text
-core_name_written text h = written core_name_is_lawful.shortest text (core_name_there text (in_name text h))
+pub core_name_written : (text : List ℕ) → IsMinimal name.Encodes name.bytes text → IsMinimal core_name.Encodes core_name.bytes text
+core_name_written text h = written core_name_is_lawful.minimal text (core_name_there text (in_name text h))
 
 pub core_name_appended : (text old one new : List ℕ) → one ≡ old ++ 0x00 ∷ [] → new ≡ one ++ name.bytes text → new ≡ old ++ core_name.bytes text
 unfolding core_name
 core_name_appended text old one new p q = two old (0x00 ∷ []) (name.bytes text) one new p q
 
 pub adds_module : (was old new : EncodedItems) (text : List ℕ) (r : Result (Unit {0}) EncodeError) → was ≡ old → OnOk r (new.count ≡ was.count + 1) → OnOk r (new.bytes ≡ was.bytes ++ core_name.bytes text)
-    → OnOk r (IsShortest core_name.Encodes core_name.bytes text) → OnErr r (new ≡ was) → IfErr r (IsRefused (IsCount (length text)) was) → AddsNamed core_name (length text) old text new r
+    → OnOk r (IsMinimal core_name.Encodes core_name.bytes text) → OnErr r (new ≡ was) → IfErr r (IsRefused (IsCount (length text)) was) → AddsNamed core_name (length text) old text new r
 adds_module was old new text r same count bytes written unchanged refusal = adds_named core_name_is_lawful was old new text r same text count bytes written unchanged refusal
 
 -- ---- instances
@@ -71,26 +71,26 @@ unfolding core_instance
 instance_there i index memories globals = ((index, (memories, globals)), refl)
 
 -- the indices of a list are in range
-indices_fit : (indices : List ℕ) → IsCount (length indices) → All (IsShortest EncodesU32 unsigned_leb128) indices → (items u32).InRange indices
+indices_fit : (indices : List ℕ) → IsCount (length indices) → All (IsMinimal EncodesU32 unsigned_leb128) indices → (items u32).InRange indices
 indices_fit indices few all = (few, by_recursion u32.InRange indices (all_in_range u32 Lawful-u32 indices all))
 
-pub instance_written : (i : CoreDumpInstance) → IsShortest EncodesU32 unsigned_leb128 i.module_index → IsCount (length i.memories) → All (IsShortest EncodesU32 unsigned_leb128) i.memories → IsCount (length i.globals) → All (IsShortest EncodesU32 unsigned_leb128) i.globals
-    → IsShortest core_instance.Encodes core_instance.bytes i
-instance_written i index few memories count globals = written instance_is_lawful.shortest i (instance_there i (in_range_of u32 Lawful-u32 i.module_index index) (indices_fit i.memories few memories) (indices_fit i.globals count globals))
+pub instance_written : (i : CoreDumpInstance) → IsMinimal EncodesU32 unsigned_leb128 i.module_index → IsCount (length i.memories) → All (IsMinimal EncodesU32 unsigned_leb128) i.memories → IsCount (length i.globals) → All (IsMinimal EncodesU32 unsigned_leb128) i.globals
+    → IsMinimal core_instance.Encodes core_instance.bytes i
+instance_written i index few memories count globals = written instance_is_lawful.minimal i (instance_there i (in_range_of u32 Lawful-u32 i.module_index index) (indices_fit i.memories few memories) (indices_fit i.globals count globals))
 
 pub instance_appended : (i : CoreDumpInstance) (old one two three new : List ℕ) → one ≡ old ++ 0x00 ∷ [] → two ≡ one ++ unsigned_leb128 i.module_index → three ≡ two ++ items_bytes unsigned_leb128 i.memories → new ≡ three ++ items_bytes unsigned_leb128 i.globals → new ≡ old ++ core_instance.bytes i
 unfolding core_instance
 instance_appended i old a b c new p q r s = four old (0x00 ∷ []) (unsigned_leb128 i.module_index) (items_bytes unsigned_leb128 i.memories) (items_bytes unsigned_leb128 i.globals) a b c new p q r s
 
 pub adds_instance : (was old new : EncodedItems) (i : CoreDumpInstance) (r : Result (Unit {0}) EncodeError) → was ≡ old → OnOk r (new.count ≡ was.count + 1) → OnOk r (new.bytes ≡ was.bytes ++ core_instance.bytes i)
-    → OnOk r (IsShortest core_instance.Encodes core_instance.bytes i) → OnErr r (new ≡ was) → IfErr r (IsRefused (IsCount (length i.memories) × IsCount (length i.globals)) was)
+    → OnOk r (IsMinimal core_instance.Encodes core_instance.bytes i) → OnErr r (new ≡ was) → IfErr r (IsRefused (IsCount (length i.memories) × IsCount (length i.globals)) was)
     → Adds (GainsItem core_instance) old i new (IsMemoryOrTooLong (IsFull old ⊎ (IsUncounted (length i.memories) ⊎ IsUncounted (length i.globals)))) r
 adds_instance was old new i r same count bytes written unchanged refusal =
     adds_value instance_is_lawful was old new i r same (which (both_or (counted_or (length i.memories)) (counted_or (length i.globals)))) count bytes written unchanged refusal
 
 -- ---- processes
 
-pub process_held : (text : List ℕ) → IsShortest core_name.Encodes core_name.bytes text → HoldsProcess text
+pub process_held : (text : List ℕ) → IsMinimal core_name.Encodes core_name.bytes text → HoldsProcess text
 process_held text h = (h.encodes, refl)
 
 name_within : (text : List ℕ) → length text ≤ length (core_name.bytes text)

@@ -3,7 +3,7 @@ use Rattle.std.proofs.Common.{◌≡◌, ℕ, ◌+◌, ◌<◌, ◌≤◌, ◌^�
 use Rattle.std.specs.List.{All}
 use Rattle.wasm_codec.specs.declared.encode.EncodeError.{EncodeError}
 use Rattle.wasm_codec.specs.declared.encode.EncodeError.TheVariants.{Memory, TooLong}
-use Rattle.wasm_codec.specs.Encoding.{IsCount, IsShortest}
+use Rattle.wasm_codec.specs.Encoding.{IsCount, IsMinimal}
 use Rattle.wasm_codec.specs.Lawful.{IsLawful, IsLawfulBody}
 use Rattle.wasm_codec.specs.Leb128.{unsigned_leb128}
 use Rattle.wasm_codec.specs.Lists.{items_bytes}
@@ -41,11 +41,11 @@ pub frame_takes : TakesBytes core_frame.Encodes
 unfolding core_frame
 frame_takes = takes_bytes frame_is_lawful refl
 
-in_u32 : (n : ℕ) → IsShortest EncodesU32 unsigned_leb128 n → n < 2 ^ 32
+in_u32 : (n : ℕ) → IsMinimal EncodesU32 unsigned_leb128 n → n < 2 ^ 32
 in_u32 n h = in_range_of u32 Lawful-u32 n h
 
 -- the values of a list are in range
-values_fit : (values : List CoreDumpValue) → IsCount (length values) → All (IsShortest core_value.Encodes core_value.bytes) values → (items core_value).InRange values
+values_fit : (values : List CoreDumpValue) → IsCount (length values) → All (IsMinimal core_value.Encodes core_value.bytes) values → (items core_value).InRange values
 values_fit values few all = (few, by_recursion core_value.InRange values (all_in_range core_value value_is_lawful values all))
 
 module _ (f : CoreDumpStackFrame) where
@@ -53,10 +53,10 @@ module _ (f : CoreDumpStackFrame) where
   unfolding core_frame
   frame_there instance function offset locals stack = ((instance, (function, (offset, (locals, stack)))), refl)
 
-  pub frame_written : IsShortest EncodesU32 unsigned_leb128 f.instance_index → IsShortest EncodesU32 unsigned_leb128 f.function_index → IsShortest EncodesU32 unsigned_leb128 f.code_offset
-      → IsCount (length f.locals) → All (IsShortest core_value.Encodes core_value.bytes) f.locals → IsCount (length f.stack) → All (IsShortest core_value.Encodes core_value.bytes) f.stack → IsShortest core_frame.Encodes core_frame.bytes f
+  pub frame_written : IsMinimal EncodesU32 unsigned_leb128 f.instance_index → IsMinimal EncodesU32 unsigned_leb128 f.function_index → IsMinimal EncodesU32 unsigned_leb128 f.code_offset
+      → IsCount (length f.locals) → All (IsMinimal core_value.Encodes core_value.bytes) f.locals → IsCount (length f.stack) → All (IsMinimal core_value.Encodes core_value.bytes) f.stack → IsMinimal core_frame.Encodes core_frame.bytes f
   frame_written instance function offset few locals count stack =
-      written frame_is_lawful.shortest f (frame_there (in_u32 f.instance_index instance) (in_u32 f.function_index function) (in_u32 f.code_offset offset) (values_fit f.locals few locals) (values_fit f.stack count stack))
+      written frame_is_lawful.minimal f (frame_there (in_u32 f.instance_index instance) (in_u32 f.function_index function) (in_u32 f.code_offset offset) (values_fit f.locals few locals) (values_fit f.stack count stack))
 
   pub frame_appended : (old one two three four five new : List ℕ) → one ≡ old ++ 0x00 ∷ [] → two ≡ one ++ unsigned_leb128 f.instance_index → three ≡ two ++ unsigned_leb128 f.function_index → four ≡ three ++ unsigned_leb128 f.code_offset
       → five ≡ four ++ items_bytes core_value.bytes f.locals → new ≡ five ++ items_bytes core_value.bytes f.stack → new ≡ old ++ core_frame.bytes f
@@ -68,7 +68,7 @@ module _ (f : CoreDumpStackFrame) where
       four old (0x00 ∷ []) (unsigned_leb128 f.instance_index) (unsigned_leb128 f.function_index) (offset ++ (locals ++ stack)) a b c new p q r (three c offset locals stack d e new s t u)
 
   pub adds_frame : (was old new : EncodedItems) (r : Result (Unit {0}) EncodeError) → was ≡ old → OnOk r (new.count ≡ was.count + 1) → OnOk r (new.bytes ≡ was.bytes ++ core_frame.bytes f)
-      → OnOk r (IsShortest core_frame.Encodes core_frame.bytes f) → OnErr r (new ≡ was) → IfErr r (IsRefused (IsCount (length f.locals) × IsCount (length f.stack)) was)
+      → OnOk r (IsMinimal core_frame.Encodes core_frame.bytes f) → OnErr r (new ≡ was) → IfErr r (IsRefused (IsCount (length f.locals) × IsCount (length f.stack)) was)
       → Adds (GainsItem core_frame) old f new (IsMemoryOrTooLong (IsFull old ⊎ (IsUncounted (length f.locals) ⊎ IsUncounted (length f.stack)))) r
   adds_frame was old new r same count bytes written unchanged refusal =
       adds_value frame_is_lawful was old new f r same (which (both_or (counted_or (length f.locals)) (counted_or (length f.stack)))) count bytes written unchanged refusal
@@ -94,12 +94,12 @@ stack_bytes_are : (s : StackParts) → core_stack.bytes s ≡ 0x00 ∷ (name.byt
 unfolding core_stack
 stack_bytes_are s = refl
 
-pub stack_holds : (built : BuiltStack) → IsShortest name.Encodes name.bytes built.name → IsCount built.frames.count → HoldsStack built
+pub stack_holds : (built : BuiltStack) → IsMinimal name.Encodes name.bytes built.name → IsCount built.frames.count → HoldsStack built
 stack_holds built text few frames stands =
     let s = stack_of (built.name, frames) in
     let is : stack_bytes built ≡ core_stack.bytes s = ap (λ (t : List ℕ). 0x00 ∷ (name.bytes built.name ++ t)) (inner_is core_frame built.frames frames stands) ∙ sym (stack_bytes_are s) in
     let fits = stack_there s (in_name built.name text) (inner_in_range core_frame built.frames frames few stands) in
-    (rw is (stack_is_lawful.shortest.encodes s fits), is)
+    (rw is (stack_is_lawful.minimal.encodes s fits), is)
 
 pub stack_appended : (built : BuiltStack) (old one two new : List ℕ) → one ≡ old ++ 0x00 ∷ [] → two ≡ one ++ name.bytes built.name → new ≡ two ++ body_bytes built.frames → new ≡ old ++ stack_bytes built
 stack_appended built old a b new p q r = three old (0x00 ∷ []) (name.bytes built.name) (body_bytes built.frames) a b new p q r

@@ -1,6 +1,6 @@
 -- The laws of values in core dumps, and what is written of them.
 use Rattle.std.proofs.Common.{◌≡◌, ℕ, ◌<◌, ◌^◌, List, [], ◌∷◌, refl, lit≤}
-use Rattle.wasm_codec.specs.Encoding.{IsShortest}
+use Rattle.wasm_codec.specs.Encoding.{IsMinimal}
 use Rattle.wasm_codec.specs.Lawful.{IsLawful}
 use Rattle.wasm_codec.specs.Leb128.{signed_leb128}
 use Rattle.wasm_codec.specs.formats.Combinators.{little_endian}
@@ -46,8 +46,8 @@ value_there (values.I64 n) fits = (fits, refl)
 value_there (values.F32 n) fits = (little_range 4 n.bits fits, refl)
 value_there (values.F64 n) fits = (little_range 8 n.bits fits, refl)
 
-pub value_written : (v : CoreDumpValue) → ValueFits v → IsShortest core_value.Encodes core_value.bytes v
-value_written v fits = written value_is_lawful.shortest v (value_there v fits)
+pub value_written : (v : CoreDumpValue) → ValueFits v → IsMinimal core_value.Encodes core_value.bytes v
+value_written v fits = written value_is_lawful.minimal v (value_there v fits)
 
 -- the bytes of each kind
 abbrev pub value_bytes : CoreDumpValue → List ℕ

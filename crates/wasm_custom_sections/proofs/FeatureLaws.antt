@@ -2,7 +2,7 @@
 use Rattle.std.proofs.Common.{◌≡◌, ℕ, ◌+◌, true, List, [], ◌∷◌, ◌++◌, length, Some, Result, OnOk, OnErr, IfErr, refl}
 use Rattle.std.specs.Prelude.{is_some}
 use Rattle.wasm_codec.specs.declared.encode.EncodeError.{EncodeError}
-use Rattle.wasm_codec.specs.Encoding.{IsCount, IsShortest}
+use Rattle.wasm_codec.specs.Encoding.{IsCount, IsMinimal}
 use Rattle.wasm_codec.specs.Lawful.{IsLawful}
 use Rattle.wasm_codec.specs.formats.Grammar.{TakesBytes}
 use Rattle.wasm_codec.proofs.FormatLaws.{IsFound, Lawful-both, Lawful-made, Lawful-one-byte, takes_bytes}
@@ -43,13 +43,13 @@ feature_there : (f : FeatureParts) → name.InRange f.name → target_feature.In
 unfolding target_feature feature_prefix
 feature_there f fits = ((prefix_there f.prefix, fits), refl)
 
-pub feature_written : (f : FeatureParts) → IsShortest name.Encodes name.bytes f.name → IsShortest target_feature.Encodes target_feature.bytes f
-feature_written f h = written feature_is_lawful.shortest f (feature_there f (in_name f.name h))
+pub feature_written : (f : FeatureParts) → IsMinimal name.Encodes name.bytes f.name → IsMinimal target_feature.Encodes target_feature.bytes f
+feature_written f h = written feature_is_lawful.minimal f (feature_there f (in_name f.name h))
 
 pub feature_appended : (f : FeatureParts) (old one new : List ℕ) (byte : ℕ) → feature_prefix.bytes f.prefix ≡ byte ∷ [] → one ≡ old ++ byte ∷ [] → new ≡ one ++ name.bytes f.name → new ≡ old ++ target_feature.bytes f
 unfolding target_feature
 feature_appended f old one new byte is p q = rw is (two old (byte ∷ []) (name.bytes f.name) one new p q)
 
 pub adds_feature : (was old new : EncodedItems) (prefix : FeaturePrefix) (text : List ℕ) (r : Result (Unit {0}) EncodeError) → was ≡ old → OnOk r (new.count ≡ was.count + 1) → OnOk r (new.bytes ≡ was.bytes ++ target_feature.bytes (feature_of (prefix, text)))
-    → OnOk r (IsShortest target_feature.Encodes target_feature.bytes (feature_of (prefix, text))) → OnErr r (new ≡ was) → IfErr r (IsRefused (IsCount (length text)) was) → AddsNamed target_feature (length text) old (feature_of (prefix, text)) new r
+    → OnOk r (IsMinimal target_feature.Encodes target_feature.bytes (feature_of (prefix, text))) → OnErr r (new ≡ was) → IfErr r (IsRefused (IsCount (length text)) was) → AddsNamed target_feature (length text) old (feature_of (prefix, text)) new r
 adds_feature was old new prefix text r same count bytes written unchanged refusal = adds_named feature_is_lawful was old new (feature_of (prefix, text)) r same text count bytes written unchanged refusal

@@ -3,7 +3,7 @@ use Rattle.std.proofs.Common.{◌≡◌, ℕ, suc, ◌+◌, ◌⊎◌, inl, inr,
 use Rattle.std.specs.List.{All, AllByRecursion}
 use Rattle.wasm_codec.specs.declared.encode.EncodeError.{EncodeError}
 use Rattle.wasm_codec.specs.declared.encode.EncodeError.TheVariants.{TooLong}
-use Rattle.wasm_codec.specs.Encoding.{IsCount, IsShortest}
+use Rattle.wasm_codec.specs.Encoding.{IsCount, IsMinimal}
 use Rattle.wasm_codec.specs.Lawful.{IsLawful}
 use Rattle.wasm_codec.specs.Leb128.{unsigned_leb128}
 use Rattle.wasm_codec.specs.formats.Combinators.{Format, items}
@@ -42,22 +42,22 @@ by_recursion P (x ∷ xs) h = (h 0 x (omega arith), by_recursion P xs (λ k d lt
 -- ---- a value with a name
 
 module _ {V : Type 0} {F : Format V} (law : IsLawful F) (was old new : EncodedItems) (value : V) (r : Result (Unit {0}) EncodeError) (same : was ≡ old) where
-  value_gained : (s : Result (Unit {0}) EncodeError) → OnOk s (new.count ≡ was.count + 1) → OnOk s (new.bytes ≡ was.bytes ++ F.bytes value) → OnOk s (IsShortest F.Encodes F.bytes value) → OnOk s (GainsItem F was value new)
+  value_gained : (s : Result (Unit {0}) EncodeError) → OnOk s (new.count ≡ was.count + 1) → OnOk s (new.bytes ≡ was.bytes ++ F.bytes value) → OnOk s (IsMinimal F.Encodes F.bytes value) → OnOk s (GainsItem F was value new)
   value_gained (Ok x) count bytes written = gains_one F (λ item. Unit {0}) was new value count bytes tt (in_range_of F law value written)
   value_gained (Err e) count bytes written = tt
 
-  pub adds_value : {Can Long : Type 0} → ((Can → ⊥) → Long) → OnOk r (new.count ≡ was.count + 1) → OnOk r (new.bytes ≡ was.bytes ++ F.bytes value) → OnOk r (IsShortest F.Encodes F.bytes value) → OnErr r (new ≡ was) → IfErr r (IsRefused Can was)
+  pub adds_value : {Can Long : Type 0} → ((Can → ⊥) → Long) → OnOk r (new.count ≡ was.count + 1) → OnOk r (new.bytes ≡ was.bytes ++ F.bytes value) → OnOk r (IsMinimal F.Encodes F.bytes value) → OnErr r (new ≡ was) → IfErr r (IsRefused Can was)
       → Adds (GainsItem F) old value new (IsMemoryOrTooLong (IsFull old ⊎ Long)) r
   adds_value {Long = Long} why count bytes written unchanged refusal =
       subst (λ (list : EncodedItems). Adds (GainsItem F) list value new (IsMemoryOrTooLong (IsFull list ⊎ Long)) r) same
       (record { gains = value_gained r count bytes written; same = unchanged; refused = refused r was why refusal })
 
-  pub adds_named : (text : List ℕ) → OnOk r (new.count ≡ was.count + 1) → OnOk r (new.bytes ≡ was.bytes ++ F.bytes value) → OnOk r (IsShortest F.Encodes F.bytes value) → OnErr r (new ≡ was) → IfErr r (IsRefused (IsCount (length text)) was)
+  pub adds_named : (text : List ℕ) → OnOk r (new.count ≡ was.count + 1) → OnOk r (new.bytes ≡ was.bytes ++ F.bytes value) → OnOk r (IsMinimal F.Encodes F.bytes value) → OnErr r (new ≡ was) → IfErr r (IsRefused (IsCount (length text)) was)
       → AddsNamed F (length text) old value new r
   adds_named text count bytes written unchanged refusal = adds_value (which (counted_or (length text))) count bytes written unchanged refusal
 
 pub adds_naming : (was old new : EncodedItems) (index : ℕ) (text : List ℕ) (r : Result (Unit {0}) EncodeError) → was ≡ old → OnOk r (new.count ≡ was.count + 1) → OnOk r (new.bytes ≡ was.bytes ++ naming.bytes (naming_of (index, text)))
-    → OnOk r (IsShortest naming.Encodes naming.bytes (naming_of (index, text))) → OnErr r (new ≡ was) → IfErr r (IsRefused (IsCount (length text)) was) → AddsNamed naming (length text) old (naming_of (index, text)) new r
+    → OnOk r (IsMinimal naming.Encodes naming.bytes (naming_of (index, text))) → OnErr r (new ≡ was) → IfErr r (IsRefused (IsCount (length text)) was) → AddsNamed naming (length text) old (naming_of (index, text)) new r
 adds_naming was old new index text r same count bytes written unchanged refusal = adds_named naming_is_lawful was old new (naming_of (index, text)) r same text count bytes written unchanged refusal
 
 -- ---- a value with a list of such values
@@ -94,7 +94,7 @@ adds_names was old inner new index r same count bytes written unchanged refusal 
 pub holds_list : {V : Type 0} (F : Format V) → IsLawful F → (section : EncodedItems) → IsCount section.count → HoldsList F section
 holds_list F law section few values stands =
     let is = inner_is F section values stands in
-    (subst (λ (t : List ℕ). (items F).Encodes t values) (sym is) ((Lawful-items law).shortest.encodes values (inner_in_range F section values few stands)), is)
+    (subst (λ (t : List ℕ). (items F).Encodes t values) (sym is) ((Lawful-items law).minimal.encodes values (inner_in_range F section values few stands)), is)
 
 pub list_written : {V X E : Type 0} (P : Type 0) (F : Format V) → IsLawful F → (was section : EncodedItems) → was ≡ section → IsCount was.count → (text title contents : List ℕ) → text ≡ title → contents ≡ body_bytes was → (r : Result X E) → OnOk r (P × IsNamedSection text contents)
     → OnOk r (HoldsList F section × IsNamedSection title (body_bytes section))

@@ -2,7 +2,7 @@
 use Rattle.std.proofs.Common.{◌≡◌, ℕ, ◌+◌, ◌<◌, ◌^◌, Bool, true, false, List, [], ◌∷◌, ◌++◌, length, Some, Result, OnOk, OnErr, IfErr, refl, lit≤}
 use Rattle.std.specs.List.{All, AllByRecursion}
 use Rattle.wasm_codec.specs.declared.encode.EncodeError.{EncodeError}
-use Rattle.wasm_codec.specs.Encoding.{IsCount, IsShortest}
+use Rattle.wasm_codec.specs.Encoding.{IsCount, IsMinimal}
 use Rattle.wasm_codec.specs.Lawful.{IsLawful, IsLawfulBody}
 use Rattle.wasm_codec.specs.Leb128.{unsigned_leb128}
 use Rattle.wasm_codec.specs.Lists.{items_bytes}
@@ -61,8 +61,8 @@ hint_there : (h : BranchHint) → h.branch_func_offset < 2 ^ 32 → branch_hint.
 unfolding branch_hint
 hint_there h small = ((small, value_there h.likely), refl)
 
-pub hint_written : (h : BranchHint) → IsShortest EncodesU32 unsigned_leb128 h.branch_func_offset → IsShortest branch_hint.Encodes branch_hint.bytes h
-hint_written h i = written hint_is_lawful.shortest h (hint_there h (in_range_of u32 Lawful-u32 h.branch_func_offset i))
+pub hint_written : (h : BranchHint) → IsMinimal EncodesU32 unsigned_leb128 h.branch_func_offset → IsMinimal branch_hint.Encodes branch_hint.bytes h
+hint_written h i = written hint_is_lawful.minimal h (hint_there h (in_range_of u32 Lawful-u32 h.branch_func_offset i))
 
 pub hint_appended : (h : BranchHint) (byte : ℕ) (old one more new : List ℕ) → hint_value.bytes h.likely ≡ byte ∷ [] → one ≡ old ++ unsigned_leb128 h.branch_func_offset → more ≡ one ++ unsigned_leb128 1 → new ≡ more ++ byte ∷ [] → new ≡ old ++ branch_hint.bytes h
 unfolding branch_hint
@@ -72,13 +72,13 @@ hints_there : (f : FunctionHints) → f.function_index < 2 ^ 32 → IsCount (len
 unfolding function_hints
 hints_there f small few fit = ((small, (few, fit)), refl)
 
-pub hints_written : (index : ℕ) (hints : List BranchHint) → IsShortest EncodesU32 unsigned_leb128 index → IsCount (length hints) → All (IsShortest branch_hint.Encodes branch_hint.bytes) hints → IsShortest function_hints.Encodes function_hints.bytes (hints_of (index, hints))
-hints_written index hints i few all = written hints_are_lawful.shortest (hints_of (index, hints)) (hints_there (hints_of (index, hints)) (in_range_of u32 Lawful-u32 index i) few (by_recursion branch_hint.InRange hints (all_in_range branch_hint hint_is_lawful hints all)))
+pub hints_written : (index : ℕ) (hints : List BranchHint) → IsMinimal EncodesU32 unsigned_leb128 index → IsCount (length hints) → All (IsMinimal branch_hint.Encodes branch_hint.bytes) hints → IsMinimal function_hints.Encodes function_hints.bytes (hints_of (index, hints))
+hints_written index hints i few all = written hints_are_lawful.minimal (hints_of (index, hints)) (hints_there (hints_of (index, hints)) (in_range_of u32 Lawful-u32 index i) few (by_recursion branch_hint.InRange hints (all_in_range branch_hint hint_is_lawful hints all)))
 
 pub hints_appended : (index : ℕ) (hints : List BranchHint) (old one new : List ℕ) → one ≡ old ++ unsigned_leb128 index → new ≡ one ++ items_bytes branch_hint.bytes hints → new ≡ old ++ function_hints.bytes (hints_of (index, hints))
 unfolding function_hints
 hints_appended index hints old one new p q = two old (unsigned_leb128 index) (items_bytes branch_hint.bytes hints) one new p q
 
 pub adds_hints : (was old new : EncodedItems) (index : ℕ) (hints : List BranchHint) (r : Result (Unit {0}) EncodeError) → was ≡ old → OnOk r (new.count ≡ was.count + 1) → OnOk r (new.bytes ≡ was.bytes ++ function_hints.bytes (hints_of (index, hints)))
-    → OnOk r (IsShortest function_hints.Encodes function_hints.bytes (hints_of (index, hints))) → OnErr r (new ≡ was) → IfErr r (IsRefused (IsCount (length hints)) was) → AddsNamed function_hints (length hints) old (hints_of (index, hints)) new r
+    → OnOk r (IsMinimal function_hints.Encodes function_hints.bytes (hints_of (index, hints))) → OnErr r (new ≡ was) → IfErr r (IsRefused (IsCount (length hints)) was) → AddsNamed function_hints (length hints) old (hints_of (index, hints)) new r
 adds_hints was old new index hints r same count bytes written unchanged refusal = adds_value hints_are_lawful was old new (hints_of (index, hints)) r same (which (counted_or (length hints))) count bytes written unchanged refusal

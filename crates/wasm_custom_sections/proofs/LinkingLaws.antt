@@ -8,9 +8,9 @@ use Rattle.std.proofs.lemmas.List.{append-nil, append_cancel_left}
 use Rattle.std.specs.List.{flat_map}
 use Rattle.wasm_codec.specs.declared.reader.cursor.Fault.{Fault}
 use Rattle.wasm_codec.specs.declared.reader.cursor.Fault.TheVariants as faults
-use Rattle.wasm_codec.specs.Decoding.{IsMinimal, RewritesTo}
+use Rattle.wasm_codec.specs.Decoding.{TakesMinimal, RewritesTo}
 use Rattle.wasm_codec.specs.declared.encode.EncodeError.{EncodeError}
-use Rattle.wasm_codec.specs.Encoding.{byte_list_bytes, IsCount, IsShortestOrLonger}
+use Rattle.wasm_codec.specs.Encoding.{byte_list_bytes, IsCount, IsMinimalOrLonger}
 use Rattle.wasm_codec.specs.Lawful.{IsLawful, IsLawfulBody}
 use Rattle.wasm_codec.specs.Leb128.{digits_of, unsigned_leb128}
 use Rattle.wasm_codec.specs.Outcomes.{error_of, EncodesSome, IsLongestPrefix, IsNormalForm}
@@ -23,7 +23,7 @@ use Rattle.wasm_codec.specs.formats.Grammar.{IsBytes, Joined, TakesBytes}
 use Rattle.wasm_codec.proofs.BodyLaws.{Lawful-body, Lawful-byte-list, Lawful-sized, Lawful-then-body, Lawful-to-end}
 use Rattle.wasm_codec.proofs.BodyRewriting.{joined_done, joined_stopped, stopped_within}
 use Rattle.wasm_codec.proofs.FormatLaws.{BeginsWith-at, Every-made, Lawful-both, Lawful-items, Lawful-made, Lawful-or-else, Lawful-u32, Tagged-or, IsTagged, not_longer, takes_bytes}
-use Rattle.wasm_codec.proofs.Joining.{Shortest-joined}
+use Rattle.wasm_codec.proofs.Joining.{WritesMinimally-joined}
 use Rattle.wasm_codec.proofs.Laws.{IsBytes-after, bind_some, one_reading, some}
 use Rattle.wasm_codec.proofs.MinimalIfLaws.{Lawful-minimal_if, joined_minimal_only}
 use Rattle.wasm_codec.proofs.PlaceLists.{plain_reads}
@@ -32,7 +32,8 @@ use Rattle.wasm_codec.proofs.RewriterLaws.{IsAfter, is_after}
 use Rattle.wasm_lists.specs.EncodedLists.{EncodedItems, IsFull, IsMemoryOrTooLong, IsUncounted, body_bytes}
 use Rattle.wasm_lists.proofs.EncodedListLaws.{counted_or, which}
 use Rattle.wasm_sections.specs.ListSections.{Adds}
-use Rattle.wasm_sections.specs.Prefixes.{IsNothingOr, IsRefusedAt}
+use Rattle.wasm_code.specs.DecodedPrefixes.{IsNothingOr}
+use Rattle.wasm_sections.specs.Prefixes.{IsRefusedAt}
 use Rattle.wasm_custom_sections.specs.Gaining.{GainsWith}
 use Rattle.wasm_custom_sections.specs.LinkingSections.{HoldsLinking}
 use Rattle.wasm_custom_sections.specs.NamedSections.{IsNamedSection}
@@ -65,10 +66,10 @@ subsection_takes = takes_bytes subsection_is_lawful refl
 Lawful-such-that : {A : Type 0} (test : A → Bool) {F : Format A} → IsLawful F → IsLawful (such_that test F)
 Lawful-such-that {A} test {F} r = record {
   reads = record { sound = sound; complete = λ prefix v rest s g. rw (r.reads.complete prefix v rest s g.0, g.1) refl };
-  shortest = record {
-    encodes = λ v fits. (r.shortest.encodes v fits.0, fits.1);
-    again = λ bytes v g. (r.shortest.again bytes v g.0, g.1);
-    least = λ bytes v g. r.shortest.least bytes v g.0;
+  minimal = record {
+    encodes = λ v fits. (r.minimal.encodes v fits.0, fits.1);
+    again = λ bytes v g. (r.minimal.again bytes v g.0, g.1);
+    least = λ bytes v g. r.minimal.least bytes v g.0;
   };
   in_range = λ bytes v g. (r.in_range bytes v g.0, g.1);
   are_bytes = λ bytes v g. r.are_bytes bytes v g.0;
@@ -94,13 +95,13 @@ data_is_lawful = Lawful-then-body version_is_lawful (λ n. Lawful-to-end subsect
 
 -- ---- minimal encodings
 
-both_least : (prefix back t u : List ℕ) → IsShortestOrLonger prefix t → IsShortestOrLonger back u → prefix ++ back ≡ t ++ u → (prefix ≡ t) × (back ≡ u)
+both_least : (prefix back t u : List ℕ) → IsMinimalOrLonger prefix t → IsMinimalOrLonger back u → prefix ++ back ≡ t ++ u → (prefix ≡ t) × (back ≡ u)
 both_least prefix back t u (inl p) least e = (p, append_cancel_left t back u (sym (ap (λ (f : List ℕ). f ++ back) p) ∙ e))
 both_least prefix back t u (inr longer) least e =
     let le = not_longer back u least in
     absurd (omega (arith, ap (length {A = ℕ}) e, length-append prefix back, length-append t u))
 
-pub data_is_minimal : IsMinimal linking_data (linking_if true).Encodes
+pub data_is_minimal : TakesMinimal linking_data (linking_if true).Encodes
 data_is_minimal bytes v = (λ g. all g, λ g. each g) where
   all : (linking_if true).Encodes bytes v → linking_data.Encodes bytes v × (bytes ≡ linking_data.bytes v)
   all g =
@@ -110,7 +111,7 @@ data_is_minimal bytes v = (λ g. all g, λ g. each g) where
   each : linking_data.Encodes bytes v × (bytes ≡ linking_data.bytes v) → (linking_if true).Encodes bytes v
   each g =
       let h = g.0 in
-      let b = both_least h.0 h.1 (version.bytes v.0) (flat_map linking_subsection.bytes v.1) (version_is_lawful.shortest.least h.0 v.0 h.3) ((Shortest-joined subsection_is_lawful.shortest).least h.1 v.1 h.4) (sym h.2 ∙ g.1) in
+      let b = both_least h.0 h.1 (version.bytes v.0) (flat_map linking_subsection.bytes v.1) (version_is_lawful.minimal.least h.0 v.0 h.3) ((WritesMinimally-joined subsection_is_lawful.minimal).least h.1 v.1 h.4) (sym h.2 ∙ g.1) in
       (h.0, h.1, h.2, (h.3, b.0), (joined_minimal_only subsection_is_lawful h.1 v.1).1 (h.4, b.1))
 
 -- ---- a value, and then items to the end
@@ -190,7 +191,7 @@ module _ {A V : Type 0} {H : Format A} (h : IsLawful H) {F : Format V} (r : IsLa
       record {
         value = (head_is.value, all.values);
         encoded = headed_there h F bytes mid.place.left head_is.value begins all.values all.encodes;
-        is_shortest = all.written ∙ ap (λ (t : List ℕ). t ++ flat_map F.bytes all.values) (head_is.given.written ∙ ap (λ (s : Rewriting). s.done ++ H.bytes head_is.value) start-is);
+        is_minimal = all.written ∙ ap (λ (t : List ℕ). t ++ flat_map F.bytes all.values) (head_is.given.written ∙ ap (λ (s : Rewriting). s.done ++ H.bytes head_is.value) start-is);
       }
 
   pub rest_refused : (left : ℕ) → StopsAt F mid.place.left left → IsRefusedAt (H ⊗ to_end F) bytes (length bytes - left)
@@ -244,7 +245,7 @@ pub holds_linking : (section : EncodedItems) → HoldsLinking section
 unfolding version unsigned_leb128 digits_of
 holds_linking section values stands =
     let is : 2 ∷ section.bytes ≡ linking_data.bytes (versioned values) = ap (λ (t : List ℕ). 2 ∷ t) stands.bytes in
-    (subst (λ (t : List ℕ). linking_data.Encodes t (versioned values)) (sym is) (data_is_lawful.shortest.encodes (versioned values) ((lit≤ tt, refl), by_recursion linking_subsection.InRange values stands.in_range)), is)
+    (subst (λ (t : List ℕ). linking_data.Encodes t (versioned values)) (sym is) (data_is_lawful.minimal.encodes (versioned values) ((lit≤ tt, refl), by_recursion linking_subsection.InRange values stands.in_range)), is)
 
 pub linking_written : (P : Type 0) {X E : Type 0} (section : EncodedItems) (contents : List ℕ) → contents ≡ 2 ∷ section.bytes → (r : Result X E) → OnOk r (P × IsNamedSection (codes "linking") contents) → OnOk r (HoldsLinking section × IsNamedSection (codes "linking") (2 ∷ section.bytes))
 linking_written P section contents is (Ok x) h = (holds_linking section, subst (IsNamedSection (codes "linking")) is h.1)

@@ -10,10 +10,10 @@ use Rattle.wasm_code.specs.formats.Modules.{raw_module, raw_section}
 use Rattle.wasm_code.specs.formats.Sections.{SectionParts}
 use Rattle.wasm_code.proofs.ModuleFormatLaws.{Lawful-raw-module}
 use Rattle.wasm_sections.specs.formats.EntryParts.{CustomParts}
-use Rattle.wasm_sections.specs.formats.ModuleSections.{ShortestWholeModule}
+use Rattle.wasm_sections.specs.formats.ModuleSections.{IsMinimalSection, MinimalWholeModule}
 use Rattle.wasm_sections.specs.formats.Sections.{custom_body}
 use Rattle.wasm_sections.proofs.CustomLaws.{custom_is_lawful}
-use Rattle.wasm_sections.proofs.RawSections.{IsMinimalSection, custom_minimal, raw_sections}
+use Rattle.wasm_sections.proofs.RawSections.{custom_minimal, raw_sections}
 use Rattle.wasm_custom_sections.specs.LongerContents.{HasLongerContents, IsLongerIn, IsLongerInside, IsMinimalIn, IsMinimalInside, IsWritten}
 use Rattle.wasm_custom_sections.specs.MinimalContents.{AreMinimised, none, more, HasContents, HasNames, HasProducers, IsDecodedAs, IsMinimised, Minimises, MinimisesContents}
 use Rattle.wasm_custom_sections.specs.NamedSections.{named}
@@ -52,7 +52,7 @@ all_stay none minimal fits are = refl
 all_stay (more {s = s} {m = m} {sections = sections} {minimal = minimised} one rest) minimal fits are =
     ap (λ (x : SectionParts). x ∷ minimised) (stays s m one minimal.0 fits.0 are.0) ∙ ap (λ (l : List SectionParts). s ∷ l) (all_stay rest minimal.1 fits.1 are.1)
 
-pub nothing_longer : (bytes minimised : List ℕ) (sections : List SectionParts) → EncodesSome ShortestWholeModule bytes → raw_module.Encodes bytes sections → AllByRecursion IsMinimalInside sections → MinimisesContents bytes minimised → minimised ≡ bytes
+pub nothing_longer : (bytes minimised : List ℕ) (sections : List SectionParts) → EncodesSome MinimalWholeModule bytes → raw_module.Encodes bytes sections → AllByRecursion IsMinimalInside sections → MinimisesContents bytes minimised → minimised ≡ bytes
 nothing_longer bytes minimised sections g h minimal m =
     let raw = raw_sections bytes g in
     let same : sections ≡ raw.sections = encodes_one Lawful-raw-module bytes sections raw.sections h raw.encodes in

@@ -13,7 +13,7 @@ use Rattle.wasm_code.specs.formats.Modules.{raw_module, raw_section}
 use Rattle.wasm_code.specs.formats.Sections.{SectionParts, header}
 use Rattle.wasm_code.proofs.ModuleFormatLaws.{Lawful-raw-section}
 use Rattle.wasm_code.proofs.SectionWalks.{next_section, no_section, none_left}
-use Rattle.wasm_sections.specs.formats.ModuleSections.{ShortestWholeModule}
+use Rattle.wasm_sections.specs.formats.ModuleSections.{MinimalWholeModule}
 use Rattle.wasm_sections.proofs.RawSections.{raw_sections}
 use Rattle.wasm_custom_sections.specs.LongerContents.{HasLongerContents, IsFirstLonger, IsLongerInside, IsMinimalInside}
 use Rattle.wasm_custom_sections.proofs.LongerLaws.{nothing_longer}
@@ -93,7 +93,7 @@ walked_nowhere bytes here new (faults.Malformed m) w some unread malformed all g
 
 -- ---- minimally encoded modules
 
-module _ (bytes : List ℕ) (minimal : EncodesSome ShortestWholeModule bytes) where
+module _ (bytes : List ℕ) (minimal : EncodesSome MinimalWholeModule bytes) where
   -- one in which no contents are longer has no longer contents
   pub none_longer : (sections : List ℕ) → bytes ≡ header ++ sections → ((all : List SectionParts) → Joined raw_section.Encodes sections all → AllByRecursion IsMinimalInside all) → HasLongerContents bytes → {A : Type 0} → A
   none_longer sections found all longer =

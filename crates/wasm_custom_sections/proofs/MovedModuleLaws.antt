@@ -17,29 +17,14 @@ use Rattle.wasm_code.specs.formats.Sections.{SectionParts, all_parts_of, header,
 use Rattle.wasm_code.proofs.ModuleFormatLaws.{Lawful-raw-module}
 use Rattle.wasm_sections.specs.SectionBytes.{IsSectionAfter}
 use Rattle.wasm_sections.specs.formats.ModuleSectionParts.{custom}
-use Rattle.wasm_sections.specs.formats.ModuleSections.{KeepsMinimal, ShortestWholeModule}
+use Rattle.wasm_sections.specs.formats.ModuleSections.{IsMinimalSection, KeepsMinimal, MinimalWholeModule}
 use Rattle.wasm_sections.specs.formats.Sections.{custom_body}
 use Rattle.wasm_sections.proofs.RawSections.{raw_sections, whole_again}
-use Rattle.wasm_custom_sections.specs.MovedHints.{AppendsMoved, HasHintBytes, IsHintSection, IsMinimalSection, MovesContents, MovesHints, MovesSoFar, first_body}
+use Rattle.wasm_custom_sections.specs.MovedHints.{AppendsMoved, HasHintBytes, IsHintSection, MovesContents, MovesHints, MovesSoFar}
 use Rattle.wasm_custom_sections.specs.MovedOffsets.{none}
 use Rattle.wasm_custom_sections.specs.NamedSections.{named}
 use Rattle.wasm_custom_sections.specs.declared.moved_hints.HintedCode.{HintedCode}
 use Rattle.wasm_custom_sections.proofs.MovedOffsetLaws.{each_end}
-
--- ---- the first section with an id
-
--- the sections from one on
-from_one : (sections : List RawSection) (i : ℕ) (s : RawSection) → i < length sections → drop i sections ≡ get_or sections i s ∷ drop (i + 1) sections
-from_one sections i s lt = rw add-one (drop-cons sections i s lt)
-
-pub first_here : (id : ℕ) (sections : List RawSection) (i : ℕ) (d : RawSection) → i < length sections → (get_or sections i d).id ≡ id → first_body id (all_parts_of (drop i sections)) ≡ Some (get_or sections i d).body.now
-first_here id sections i d lt is = rw (from_one sections i d lt, eq-eqb (get_or sections i d).id id is) refl
-
-pub first_later : (id : ℕ) (sections : List RawSection) (i : ℕ) (d : RawSection) → i < length sections → ((get_or sections i d).id ≡ id → ⊥) → first_body id (all_parts_of (drop i sections)) ≡ first_body id (all_parts_of (drop (i + 1) sections))
-first_later id sections i d lt other = rw (from_one sections i d lt) (by (eqb (get_or sections i d).id id) refl) where
-  by : (t : Bool) → eqb (get_or sections i d).id id ≡ t → first_body id (parts_of (get_or sections i d) ∷ all_parts_of (drop (i + 1) sections)) ≡ first_body id (all_parts_of (drop (i + 1) sections))
-  by true e = absurd (other (eqb-true (get_or sections i d).id id e))
-  by false e = rw e refl
 
 -- ---- one section
 
@@ -118,4 +103,4 @@ pub stays_minimal : (imported : ℕ) (bodies : List (List ℕ)) (sections : List
 stays_minimal imported bodies sections bytes result encodes w g =
     let raw = raw_sections bytes g in
     let same : raw.sections ≡ sections = encodes_one Lawful-raw-module bytes raw.sections sections raw.encodes encodes in
-    subst (EncodesSome ShortestWholeModule) (sym w.written) (whole_again w.moved (w.minimal (subst (AllByRecursion IsMinimalSection) same raw.minimal)))
+    subst (EncodesSome MinimalWholeModule) (sym w.written) (whole_again w.moved (w.minimal (subst (AllByRecursion IsMinimalSection) same raw.minimal)))

@@ -48,7 +48,7 @@ Joined-append G a b (v ∷ vs) ws g h =
 some_left : (back : List ℕ) (calls : List Instruction) → Joined instruction.Encodes back calls → 0 < length back → 0 < length (flat_map instruction.bytes calls)
 some_left back [] g some = absurd (omega (arith, some, ap (length {A = ℕ}) g))
 some_left back (v ∷ vs) g some =
-    omega (arith, takes_some instruction.Encodes instruction_takes (instruction.bytes v) v (Lawful-instruction.shortest.again g.0 v g.3), length-append (instruction.bytes v) (flat_map instruction.bytes vs))
+    omega (arith, takes_some instruction.Encodes instruction_takes (instruction.bytes v) v (Lawful-instruction.minimal.again g.0 v g.3), length-append (instruction.bytes v) (flat_map instruction.bytes vs))
 
 module _ (body front rest : List ℕ) (code : Code) (parts : body ≡ front ++ rest) (encodes : function_code.Encodes front code) (goes_on : 0 < length rest) where
   stands : (all : Code) → function_code.Encodes body all → BeginsAt (function_code.bytes all) (length code.1) (length (function_code.bytes code))
@@ -70,7 +70,7 @@ module _ (body front rest : List ℕ) (code : Code) (parts : body ≡ front ++ r
         front = function_code.bytes code;
         rest = calls s.more;
         parts = are;
-        encodes = Lawful-function-code.shortest.again front code encodes;
+        encodes = Lawful-function-code.minimal.again front code encodes;
         counts = refl;
         offset_is = refl;
         goes_on = some_left s.back s.more s.encodes left;
@@ -122,7 +122,7 @@ module _ (body copy : List ℕ) (old new : Rewriting) (fits : IsBytes old.place.
       let start : take len body ≡ b.prefix = ap (λ (n : ℕ). take n body) at ∙ ap (take (length b.prefix)) b.parts ∙ take-append_seam b.prefix new.place.left in
       let encodes : function_code.Encodes b.prefix code = (b.prefix, [], sym (append-nil b.prefix), b.encodes, refl) in
       let wrote : new.done ≡ (items local_group).bytes one.value = one.given.written ∙ ap (λ (r : Rewriting). r.done ++ (items local_group).bytes one.value) begun in
-      let short = not_longer b.prefix (function_code.bytes code) (Lawful-function-code.shortest.least b.prefix code encodes) in
+      let short = not_longer b.prefix (function_code.bytes code) (Lawful-function-code.minimal.least b.prefix code encodes) in
       let is : length (function_code.bytes code) ≡ minimal = ap (length {A = ℕ}) (append-nil ((items local_group).bytes one.value) ∙ sym wrote) ∙ sym minimal-is in
       record {
         code = code;
@@ -145,9 +145,9 @@ front_goes_on body segment encoding front len count counted f le lt is n =
     let parts : take len body ≡ g.0 ++ (g.1 ++ segment) = start ∙ ap (λ (t : List ℕ). t ++ segment) g.2 ∙ append_assoc g.0 g.1 segment in
     let encodes : function_code.Encodes (take len body) code = (g.0, g.1 ++ segment, parts, g.3, Joined-append instruction.Encodes g.1 segment f.code.1 n.value g.4 n.encoded) in
     let all : function_code.bytes code ≡ function_code.bytes f.code ++ encoding = ap (λ (t : List ℕ). locals ++ t) (flat_map-append instruction.bytes f.code.1 n.value)
-    ∙ sym (append_assoc locals (calls f.code.1) (calls n.value)) ∙ ap (λ (t : List ℕ). (locals ++ calls f.code.1) ++ t) (sym n.is_shortest) in
+    ∙ sym (append_assoc locals (calls f.code.1) (calls n.value)) ∙ ap (λ (t : List ℕ). (locals ++ calls f.code.1) ++ t) (sym n.is_minimal) in
     let minimal : length (function_code.bytes code) ≡ front.minimal + count = ap (length {A = ℕ}) all ∙ length-append (function_code.bytes f.code) encoding ∙ omega (arith, f.minimal_is, counted) in
-    let short = not_longer (take len body) (function_code.bytes code) (Lawful-function-code.shortest.least (take len body) code encodes) in
+    let short = not_longer (take len body) (function_code.bytes code) (Lawful-function-code.minimal.least (take len body) code encodes) in
     let within : length (take len body) ≡ len = length-take-within len body (omega (arith, lt)) in
     record {
       front_is = record { code = code; within = omega (arith, lt); encodes = encodes; minimal_is = minimal; no_longer = omega (arith, short, minimal, within) };

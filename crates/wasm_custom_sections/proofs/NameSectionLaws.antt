@@ -6,7 +6,7 @@ use Rattle.std.proofs.lemmas.Grind.{flat_map-append}
 use Rattle.std.proofs.lemmas.List.{append-nil}
 use Rattle.std.proofs.lemmas.List.Elements.{All-nil, All-cons, All-append}
 use Rattle.wasm_codec.specs.declared.encode.EncodeError.TheVariants.{Memory, TooLong}
-use Rattle.wasm_codec.specs.Encoding.{byte_list_bytes, IsCount, IsShortest, IsTooLong}
+use Rattle.wasm_codec.specs.Encoding.{byte_list_bytes, IsCount, IsMinimal, IsTooLong}
 use Rattle.wasm_codec.specs.Leb128.{unsigned_leb128}
 use Rattle.wasm_codec.specs.formats.Combinators.{Format, items}
 use Rattle.wasm_externals.specs.formats.Names.{name}
@@ -129,7 +129,7 @@ name_refused id next (Err (errors.Encode e)) text (inl (inl memory)) = inl memor
 name_refused id next (Err (errors.Encode e)) text (inl (inr (cannot, is))) = inr (is, which (counted_or (length (name.bytes text))) (λ (few : length (unsigned_leb128 (length text) ++ text) < 2 ^ 32). cannot (omega (arith, few, length-append (unsigned_leb128 (length text)) text))))
 name_refused id next (Err (errors.Encode e)) text (inr (is, long)) = inr (is, long)
 
-pub adds_module : (was old new : BuiltNames) (text : List ℕ) (r : Result (Unit {0}) NameError) → was ≡ old → OnOk r (was.next ≤ 0) → (0 < was.next → IsErrOf r errors.OutOfOrder) → OnOk r (new.bytes ≡ was.bytes ++ 0 ∷ byte_list_bytes (name.bytes text)) → OnOk r (new.next ≡ 0 + 1) → OnOk r (IsCount (length (name.bytes text))) → OnOk r (IsShortest name.Encodes name.bytes text)
+pub adds_module : (was old new : BuiltNames) (text : List ℕ) (r : Result (Unit {0}) NameError) → was ≡ old → OnOk r (was.next ≤ 0) → (0 < was.next → IsErrOf r errors.OutOfOrder) → OnOk r (new.bytes ≡ was.bytes ++ 0 ∷ byte_list_bytes (name.bytes text)) → OnOk r (new.next ≡ 0 + 1) → OnOk r (IsCount (length (name.bytes text))) → OnOk r (IsMinimal name.Encodes name.bytes text)
     → OnErr r (new ≡ was) → IfErr r (IsNameErrorOf 0 was.next (λ e. ((e ≡ Memory) ⊎ ((IsCount (length text) → ⊥) × (e ≡ TooLong))) ⊎ IsTooLong (length (name.bytes text)) e)) → AddsName old text new r
 adds_module was old new text r same higher lower bytes next few written unchanged refusal =
     adds_content module_name_kind was old new r same (λ value. value ≡ text) (name.bytes text) higher lower (λ h v is. (ap name.bytes (sym is), subst name.InRange (sym is) (in_name text h))) bytes next few written unchanged (name_refused 0 was.next r text refusal)
@@ -139,4 +139,4 @@ adds_module was old new text r same higher lower bytes next few written unchange
 -- the contents are the minimal encoding of the subsections
 pub holds_names : (section : BuiltNames) → HoldsNames section
 holds_names section subsections stands =
-    (subst (λ (t : List ℕ). name_data.Encodes t subsections) (sym stands.bytes) (name_data_is_lawful.shortest.encodes subsections (by_recursion name_subsection.InRange subsections stands.in_range)), stands.bytes)
+    (subst (λ (t : List ℕ). name_data.Encodes t subsections) (sym stands.bytes) (name_data_is_lawful.minimal.encodes subsections (by_recursion name_subsection.InRange subsections stands.in_range)), stands.bytes)

@@ -1,6 +1,6 @@
 -- The laws of names for indices, and what is written of them.
 use Rattle.std.proofs.Common.{◌≡◌, ℕ, ◌<◌, ◌^◌, List, ◌++◌, Some, refl}
-use Rattle.wasm_codec.specs.Encoding.{IsShortest}
+use Rattle.wasm_codec.specs.Encoding.{IsMinimal}
 use Rattle.wasm_codec.specs.Lawful.{IsLawful}
 use Rattle.wasm_codec.specs.Leb128.{unsigned_leb128}
 use Rattle.wasm_codec.specs.formats.Grammar.{TakesBytes}
@@ -37,8 +37,8 @@ naming_there : (n : NamingParts) → n.index < 2 ^ 32 → name.InRange n.name �
 unfolding naming
 naming_there n small fits = ((small, fits), refl)
 
-pub naming_written : (n : NamingParts) → IsShortest EncodesU32 unsigned_leb128 n.index → IsShortest name.Encodes name.bytes n.name → IsShortest naming.Encodes naming.bytes n
-naming_written n i h = written naming_is_lawful.shortest n (naming_there n (in_range_of u32 Lawful-u32 n.index i) (in_name n.name h))
+pub naming_written : (n : NamingParts) → IsMinimal EncodesU32 unsigned_leb128 n.index → IsMinimal name.Encodes name.bytes n.name → IsMinimal naming.Encodes naming.bytes n
+naming_written n i h = written naming_is_lawful.minimal n (naming_there n (in_range_of u32 Lawful-u32 n.index i) (in_name n.name h))
 
 pub naming_appended : (n : NamingParts) (old one new : List ℕ) → one ≡ old ++ unsigned_leb128 n.index → new ≡ one ++ name.bytes n.name → new ≡ old ++ naming.bytes n
 unfolding naming

@@ -1,7 +1,7 @@
 -- The laws of the fields of a producers section, and what is written of them.
 use Rattle.std.proofs.Common.{◌≡◌, ℕ, ◌+◌, ◌⊎◌, List, ◌++◌, length, Some, Result, OnOk, OnErr, IfErr, refl, sym, ap, ◌∙◌}
 use Rattle.wasm_codec.specs.declared.encode.EncodeError.{EncodeError}
-use Rattle.wasm_codec.specs.Encoding.{IsCount, IsShortest}
+use Rattle.wasm_codec.specs.Encoding.{IsCount, IsMinimal}
 use Rattle.wasm_codec.specs.Lawful.{IsLawful}
 use Rattle.wasm_codec.specs.formats.Grammar.{TakesBytes}
 use Rattle.wasm_codec.specs.formats.Combinators.{items}
@@ -40,8 +40,8 @@ producer_there : (p : ProducerParts) → name.InRange p.name → name.InRange p.
 unfolding producer
 producer_there p first second = ((first, second), refl)
 
-pub producer_written : (p : ProducerParts) → IsShortest name.Encodes name.bytes p.name → IsShortest name.Encodes name.bytes p.version → IsShortest producer.Encodes producer.bytes p
-producer_written p first second = written producer_is_lawful.shortest p (producer_there p (in_name p.name first) (in_name p.version second))
+pub producer_written : (p : ProducerParts) → IsMinimal name.Encodes name.bytes p.name → IsMinimal name.Encodes name.bytes p.version → IsMinimal producer.Encodes producer.bytes p
+producer_written p first second = written producer_is_lawful.minimal p (producer_there p (in_name p.name first) (in_name p.version second))
 
 pub producer_appended : (p : ProducerParts) (old one new : List ℕ) → one ≡ old ++ name.bytes p.name → new ≡ one ++ name.bytes p.version → new ≡ old ++ producer.bytes p
 unfolding producer
@@ -58,13 +58,13 @@ field_bytes f = refl
 -- ---- methods that add
 
 pub adds_producer : (was old new : EncodedItems) (first second : List ℕ) (r : Result (Unit {0}) EncodeError) → was ≡ old → OnOk r (new.count ≡ was.count + 1) → OnOk r (new.bytes ≡ was.bytes ++ producer.bytes (producer_of (first, second)))
-    → OnOk r (IsShortest producer.Encodes producer.bytes (producer_of (first, second))) → OnErr r (new ≡ was) → IfErr r (IsRefused (IsCount (length first) × IsCount (length second)) was)
+    → OnOk r (IsMinimal producer.Encodes producer.bytes (producer_of (first, second))) → OnErr r (new ≡ was) → IfErr r (IsRefused (IsCount (length first) × IsCount (length second)) was)
     → Adds (GainsItem producer) old (producer_of (first, second)) new (IsMemoryOrTooLong (IsFull old ⊎ (IsUncounted (length first) ⊎ IsUncounted (length second)))) r
 adds_producer was old new first second r same count bytes written unchanged refusal =
     adds_value producer_is_lawful was old new (producer_of (first, second)) r same (which (both_or (counted_or (length first)) (counted_or (length second)))) count bytes written unchanged refusal
 
 pub adds_field : (was old inner new : EncodedItems) (text : List ℕ) (r : Result (Unit {0}) EncodeError) → was ≡ old → OnOk r (new.count ≡ was.count + 1) → OnOk r (new.bytes ≡ was.bytes ++ (name.bytes text ++ body_bytes inner))
-    → OnOk r (IsShortest name.Encodes name.bytes text × IsCount inner.count) → OnErr r (new ≡ was) → IfErr r (IsRefused (IsCount (length text)) was)
+    → OnOk r (IsMinimal name.Encodes name.bytes text × IsCount inner.count) → OnErr r (new ≡ was) → IfErr r (IsRefused (IsCount (length text)) was)
     → Adds (GainsWith producer producers_field (λ values. field_of (text, values))) old inner new (IsMemoryOrTooLong (IsFull old ⊎ IsUncounted (length text))) r
 adds_field was old inner new text r same count bytes written unchanged refusal =
     adds_with producer producers_field (λ values. field_of (text, values)) was old inner new (name.bytes text ++ body_bytes inner) r same (λ list. IsMemoryOrTooLong (IsFull list ⊎ IsUncounted (length text)))

@@ -1,7 +1,7 @@
 -- The laws of the subsections of a name section, and what is read and rewritten of them.
 use Rattle.std.proofs.Common.{◌≡◌, ℕ, ◌<◌, ◌^◌, ◌==◌, false, List, [], ◌∷◌, ◌++◌, length, Option, Some, None, Result, Ok, Err, IsOkAnd, MatchResult, refl, sym, ap, subst, ◌∙◌, append_assoc, lit≤, arith}
 use Rattle.std.proofs.lemmas.Bool.{lt-ltb, ne_eqb}
-use Rattle.wasm_codec.specs.Decoding.{IsMinimal}
+use Rattle.wasm_codec.specs.Decoding.{TakesMinimal}
 use Rattle.wasm_codec.specs.Lawful.{IsLawful, IsLawfulBody}
 use Rattle.wasm_codec.specs.Places.{Place, byte_at, map_at, Reads}
 use Rattle.wasm_codec.specs.Reading.{◌>>=◌, map_ok}
@@ -66,7 +66,7 @@ subsection_takes = takes_bytes subsection_is_lawful refl
 pub name_data_is_lawful : IsLawfulBody name_data
 name_data_is_lawful = Lawful-to-end subsection_is_lawful subsection_takes
 
-pub name_data_is_minimal : IsMinimal name_data (Joined (minimal_only name_subsection).Encodes)
+pub name_data_is_minimal : TakesMinimal name_data (Joined (minimal_only name_subsection).Encodes)
 name_data_is_minimal = joined_minimal_only subsection_is_lawful
 
 -- ---- the kinds

@@ -3,7 +3,7 @@ use Rattle.std.proofs.Common.{◌≡◌, ℕ, ◌+◌, ◌<◌, ◌^◌, ◌⊎�
 use Rattle.std.specs.Prelude.{is_some}
 use Rattle.std.proofs.lemmas.List.{append-nil}
 use Rattle.wasm_codec.specs.declared.encode.EncodeError.{EncodeError}
-use Rattle.wasm_codec.specs.Encoding.{IsCount, IsShortest}
+use Rattle.wasm_codec.specs.Encoding.{IsCount, IsMinimal}
 use Rattle.wasm_codec.specs.Lawful.{IsLawful}
 use Rattle.wasm_codec.specs.Leb128.{unsigned_leb128}
 use Rattle.wasm_codec.specs.formats.Combinators.{u32}
@@ -64,13 +64,13 @@ symbol_takes = takes_bytes symbol_is_lawful refl
 pub no_more : (old : List ℕ) → old ≡ old ++ []
 no_more old = sym (append-nil old)
 
-in_u32 : (n : ℕ) → IsShortest EncodesU32 unsigned_leb128 n → n < 2 ^ 32
+in_u32 : (n : ℕ) → IsMinimal EncodesU32 unsigned_leb128 n → n < 2 ^ 32
 in_u32 n h = in_range_of u32 Lawful-u32 n h
 
-pub name_there : (text : List ℕ) → IsShortest name.Encodes name.bytes text → name.InRange text × (some_of text ≡ some_of text)
+pub name_there : (text : List ℕ) → IsMinimal name.Encodes name.bytes text → name.InRange text × (some_of text ≡ some_of text)
 name_there text h = (in_name text h, refl)
 
-pub definition_there : (d : DataSymbolDefinition) → IsShortest EncodesU32 unsigned_leb128 d.index → IsShortest EncodesU32 unsigned_leb128 d.offset → IsShortest EncodesU32 unsigned_leb128 d.size → definition.InRange d
+pub definition_there : (d : DataSymbolDefinition) → IsMinimal EncodesU32 unsigned_leb128 d.index → IsMinimal EncodesU32 unsigned_leb128 d.offset → IsMinimal EncodesU32 unsigned_leb128 d.size → definition.InRange d
 unfolding definition
 definition_there d index offset size = ((in_u32 d.index index, (in_u32 d.offset offset, in_u32 d.size size)), refl)
 
@@ -89,7 +89,7 @@ definition_if_bytes true o d flag is = rw is refl
 definition_if_bytes false o d flag is = absurd cc
 
 module _ (s : ItemParts) (there : Bool) (flag : there ≡ has_name s.flags) where
-  pub item_there : IsShortest EncodesU32 unsigned_leb128 s.flags → IsShortest EncodesU32 unsigned_leb128 s.index → (is_some s.name ≡ there → (part_if there name).InRange s.name) → ItemAgrees s → item_symbol.InRange s
+  pub item_there : IsMinimal EncodesU32 unsigned_leb128 s.flags → IsMinimal EncodesU32 unsigned_leb128 s.index → (is_some s.name ≡ there → (part_if there name).InRange s.name) → ItemAgrees s → item_symbol.InRange s
   unfolding item_symbol
   item_there flags index fits agrees = ((in_u32 s.flags flags, (in_u32 s.index index, subst (λ (t : Bool). (part_if t name).InRange s.name) flag (fits (agrees ∙ sym flag)))), refl)
 
@@ -98,7 +98,7 @@ module _ (s : ItemParts) (there : Bool) (flag : there ≡ has_name s.flags) wher
   item_appended kind old a b c new p q r t = four old (kind ∷ []) (unsigned_leb128 s.flags) (unsigned_leb128 s.index) ((part_if (has_name s.flags) name).bytes s.name) a b c new p q r (subst (λ (u : Bool). new ≡ c ++ (part_if u name).bytes s.name) flag t)
 
 module _ (s : DataParts) (there : Bool) (flag : there ≡ is_defined s.flags) where
-  pub data_there : IsShortest EncodesU32 unsigned_leb128 s.flags → IsShortest name.Encodes name.bytes s.name → (is_some s.definition ≡ there → (part_if there definition).InRange s.definition) → DataAgrees s → data_symbol.InRange s
+  pub data_there : IsMinimal EncodesU32 unsigned_leb128 s.flags → IsMinimal name.Encodes name.bytes s.name → (is_some s.definition ≡ there → (part_if there definition).InRange s.definition) → DataAgrees s → data_symbol.InRange s
   unfolding data_symbol
   data_there flags text fits agrees = ((in_u32 s.flags flags, (in_name s.name text, subst (λ (t : Bool). (part_if t definition).InRange s.definition) flag (fits (agrees ∙ sym flag)))), refl)
 
@@ -106,7 +106,7 @@ module _ (s : DataParts) (there : Bool) (flag : there ≡ is_defined s.flags) wh
   unfolding data_symbol
   data_appended old a b c new p q r t = four old (1 ∷ []) (unsigned_leb128 s.flags) (name.bytes s.name) ((part_if (is_defined s.flags) definition).bytes s.definition) a b c new p q r (subst (λ (u : Bool). new ≡ c ++ (part_if u definition).bytes s.definition) flag t)
 
-pub section_there : (s : SectionSymbol) → IsShortest EncodesU32 unsigned_leb128 s.flags → IsShortest EncodesU32 unsigned_leb128 s.section → section_symbol.InRange s
+pub section_there : (s : SectionSymbol) → IsMinimal EncodesU32 unsigned_leb128 s.flags → IsMinimal EncodesU32 unsigned_leb128 s.section → section_symbol.InRange s
 unfolding section_symbol
 section_there s flags number = ((in_u32 s.flags flags, in_u32 s.section number), refl)
 
@@ -133,7 +133,7 @@ symbol_there (tag s) fits agrees = (fits agrees, refl)
 symbol_there (table s) fits agrees = (fits agrees, refl)
 
 pub symbol_written : (s : SymbolParts) → PartsInRange s → IsWrittenSymbol s
-symbol_written s fits agrees = written symbol_is_lawful.shortest s (symbol_there s fits agrees)
+symbol_written s fits agrees = written symbol_is_lawful.minimal s (symbol_there s fits agrees)
 
 -- the bytes of each kind
 abbrev pub kind_bytes : SymbolParts → List ℕ

@@ -3,7 +3,7 @@ use Rattle.std.proofs.Common.{◌≡◌, ℕ, ◌-◌, ◌<◌, ◌≤◌, ◌�
 use Rattle.std.proofs.Math.Seq.{take-length}
 use Rattle.std.proofs.lemmas.List.{drop_at}
 use Rattle.wasm_codec.specs.Decoding.{ReadsAll}
-use Rattle.wasm_codec.specs.Encoding.{IsCount, IsShortest}
+use Rattle.wasm_codec.specs.Encoding.{IsCount, IsMinimal}
 use Rattle.wasm_codec.specs.Lawful.{IsLawful, IsLawfulBody}
 use Rattle.wasm_codec.specs.Outcomes.{error_of}
 use Rattle.wasm_codec.specs.Places.{Place, place, Reads}
@@ -17,7 +17,7 @@ use Rattle.wasm_codec.specs.formats.Grammar.{IsBytes}
 use Rattle.wasm_codec.proofs.BodyLaws.{Lawful-body}
 use Rattle.wasm_externals.specs.formats.Names.{name}
 use Rattle.wasm_externals.proofs.ExternalLaws.{two}
-use Rattle.wasm_sections.specs.Prefixes.{IsNothingOr}
+use Rattle.wasm_code.specs.DecodedPrefixes.{IsNothingOr}
 use Rattle.wasm_sections.specs.formats.Sections.{custom_body}
 use Rattle.wasm_sections.proofs.CustomLaws.{body_counted, custom_written}
 use Rattle.wasm_sections.proofs.ModuleSectionLaws.{custom_section_written}
@@ -54,7 +54,7 @@ module _ {X V : Type 0} (view : X → V) {F : Format V} (r : IsLawful F) (bytes 
 
 -- a name and contents were appended, which are bytes: with the size in front they are a section, minimally encoded
 pub named_written : (title contents old one new : List ℕ) (len start begin : ℕ) → one ≡ old ++ name.bytes title → new ≡ one ++ contents → len ≡ length new → start ≡ length old → begin ≡ length one → IsBytes (take (length new - begin) (drop begin new)) → IsCount (len - start)
-    → IsShortest name.Encodes name.bytes title → IsNamedSection title contents
+    → IsMinimal name.Encodes name.bytes title → IsNamedSection title contents
 unfolding custom_body
 named_written title contents old one new len start begin first second ends starts begins are few title_written =
     let left : drop begin new ≡ contents = rw second (drop_at one contents begin (sym begins)) in

@@ -5,7 +5,7 @@ use Rattle.std.specs.List.{All, AllByRecursion, flat_map}
 use Rattle.std.proofs.lemmas.List.{length-map}
 use Rattle.wasm_codec.specs.declared.encode.EncodeError.{EncodeError}
 use Rattle.wasm_codec.specs.declared.encode.EncodeError.TheVariants.{Memory, TooLong}
-use Rattle.wasm_codec.specs.Encoding.{byte_list_bytes, CanEncodeList, IsCount, IsCountRefusal, IsListRefusal, IsRefusal, IsShortest, IsTooLong, OnlyTooLong}
+use Rattle.wasm_codec.specs.Encoding.{byte_list_bytes, CanEncodeList, IsCount, IsCountRefusal, IsListRefusal, IsRefusal, IsMinimal, IsTooLong, OnlyTooLong}
 use Rattle.wasm_codec.specs.Lawful.{IsLawful}
 use Rattle.wasm_codec.specs.Leb128.{unsigned_leb128}
 use Rattle.wasm_codec.specs.Lists.{items_bytes}
@@ -40,11 +40,11 @@ module _ {T V : Type 0} (view : T → V) (F : Format V) where
   list_is : (xs : List T) → (items F).bytes (map view xs) ≡ items_bytes (λ x. F.bytes (view x)) xs
   list_is xs = rw (length-map xs view) (ap (λ (t : List ℕ). unsigned_leb128 (length xs) ++ t) (flat_is xs))
 
-  each_in_range : IsLawful F → (xs : List T) → All (λ x. IsShortest F.Encodes F.bytes (view x)) xs → AllByRecursion F.InRange (map view xs)
+  each_in_range : IsLawful F → (xs : List T) → All (λ x. IsMinimal F.Encodes F.bytes (view x)) xs → AllByRecursion F.InRange (map view xs)
   each_in_range law [] all = tt
   each_in_range law (x ∷ xs) all = (in_range_of F law (view x) (all 0 x (omega arith)), each_in_range law xs (λ k d lt. all (suc k) d (omega (arith, lt))))
 
-  list_in_range : IsLawful F → (xs : List T) → IsCount (length xs) → All (λ x. IsShortest F.Encodes F.bytes (view x)) xs → (items F).InRange (map view xs)
+  list_in_range : IsLawful F → (xs : List T) → IsCount (length xs) → All (λ x. IsMinimal F.Encodes F.bytes (view x)) xs → (items F).InRange (map view xs)
   list_in_range law xs few all = (subst IsCount (sym (length-map xs view)) few, each_in_range law xs all)
 
 -- why a list of items isn't written
@@ -69,8 +69,8 @@ pub indirect_appended : (item : IndirectNaming) (old one new : List ℕ) → one
 unfolding indirect_naming
 indirect_appended item old one new p q = two old (unsigned_leb128 item.index) ((items naming).bytes (map naming_parts item.names)) one new p (q ∙ ap (λ (t : List ℕ). one ++ t) (sym (list_is naming_parts naming item.names)))
 
-pub indirect_written : (item : IndirectNaming) → IsShortest EncodesU32 unsigned_leb128 item.index → AreCountedNames item.names → All (λ n. IsShortest naming.Encodes naming.bytes (naming_parts n)) item.names → IsShortest indirect_naming.Encodes indirect_naming.bytes (indirect_parts item)
-indirect_written item index can all = written indirect_is_lawful.shortest (indirect_parts item) (indirect_there (indirect_parts item) (in_range_of u32 Lawful-u32 item.index index) (list_in_range naming_parts naming naming_is_lawful item.names can.0 all))
+pub indirect_written : (item : IndirectNaming) → IsMinimal EncodesU32 unsigned_leb128 item.index → AreCountedNames item.names → All (λ n. IsMinimal naming.Encodes naming.bytes (naming_parts n)) item.names → IsMinimal indirect_naming.Encodes indirect_naming.bytes (indirect_parts item)
+indirect_written item index can all = written indirect_is_lawful.minimal (indirect_parts item) (indirect_there (indirect_parts item) (in_range_of u32 Lawful-u32 item.index index) (list_in_range naming_parts naming naming_is_lawful item.names can.0 all))
 
 -- ---- subsections
 
@@ -84,7 +84,7 @@ module _ {V : Type 0} {id : ℕ} {make : V → SubsectionParts} {F : Format V} (
   bytes_are = ap (λ (n : ℕ). n ∷ byte_list_bytes (subsection_content s)) (ap subsection_id parts ∙ kind.id_is v) ∙ ap (λ (t : List ℕ). id ∷ byte_list_bytes t) content
 
   kind_written : F.InRange v → IsCount (length (F.bytes v)) → IsWrittenSubsection s
-  kind_written fits few = λ known. (bytes_are ∙ sym (kind.bytes_are v) ∙ ap name_subsection.bytes (sym parts), subst (IsShortest name_subsection.Encodes name_subsection.bytes) (sym parts) (written subsection_is_lawful.shortest (make v) (kind.in_range v (fits, few))))
+  kind_written fits few = λ known. (bytes_are ∙ sym (kind.bytes_are v) ∙ ap name_subsection.bytes (sym parts), subst (IsMinimal name_subsection.Encodes name_subsection.bytes) (sym parts) (written subsection_is_lawful.minimal (make v) (kind.in_range v (fits, few))))
 
   kind_appended : (old new : List ℕ) (r : Result (Unit {0}) EncodeError) → OnOk r (new ≡ old ++ id ∷ byte_list_bytes (F.bytes v)) → OnOk r (new ≡ old ++ subsection_bytes s)
   kind_appended old new r ok = subst (λ (t : List ℕ). OnOk r (new ≡ old ++ t)) (sym bytes_are) ok
@@ -96,7 +96,7 @@ module _ {T V : Type 0} {id : ℕ} {view : T → V} {make : List V → Subsectio
   content_of : (ys : List T) → subsection_content (variant ys) ≡ (items F).bytes (map view ys)
   content_of ys = content ys ∙ sym (list_is view F ys)
 
-  list_written : (ys : List T) → CountedList (λ x. F.bytes (view x)) Can ys → All (λ x. IsShortest F.Encodes F.bytes (view x)) ys → IsWrittenSubsection (variant ys)
+  list_written : (ys : List T) → CountedList (λ x. F.bytes (view x)) Can ys → All (λ x. IsMinimal F.Encodes F.bytes (view x)) ys → IsWrittenSubsection (variant ys)
   list_written ys can all = kind_written kind (variant ys) (map view ys) (parts ys) (content_of ys) (list_in_range view F law ys can.0.0 all) (subst (λ (t : List ℕ). IsCount (length t)) (sym (list_is view F ys)) can.1)
 
   which : {X : Type 0} (ys : List T) (r : Result X EncodeError) → IfErr r (IsRefusal (CountedList (λ x. F.bytes (view x)) Can) OnlyTooLong ys) → IfErr r (IsRefusal CountedSubsection OnlyTooLong (variant ys))
@@ -108,7 +108,7 @@ module _ {T V : Type 0} {id : ℕ} {view : T → V} {make : List V → Subsectio
   can_be ys (Ok x) can = counted ys can
   can_be ys (Err e) can = tt
 
-  of_variant : (ys : List T) (old new : List ℕ) (r : Result (Unit {0}) EncodeError) → OnOk r (new ≡ old ++ id ∷ byte_list_bytes (items_bytes (λ x. F.bytes (view x)) ys)) → OnOk r (CountedList (λ x. F.bytes (view x)) Can ys) → OnOk r (All (λ x. IsShortest F.Encodes F.bytes (view x)) ys)
+  of_variant : (ys : List T) (old new : List ℕ) (r : Result (Unit {0}) EncodeError) → OnOk r (new ≡ old ++ id ∷ byte_list_bytes (items_bytes (λ x. F.bytes (view x)) ys)) → OnOk r (CountedList (λ x. F.bytes (view x)) Can ys) → OnOk r (All (λ x. IsMinimal F.Encodes F.bytes (view x)) ys)
       → IfErr r (IsRefusal (CountedList (λ x. F.bytes (view x)) Can) OnlyTooLong ys) → take (length old) new ≡ old → AppendsSubsection (variant ys) old new r
   of_variant ys old new r ok can all refused kept =
       let is : OnOk r (new ≡ old ++ id ∷ byte_list_bytes ((items F).bytes (map view ys))) = subst (λ (t : List ℕ). OnOk r (new ≡ old ++ id ∷ byte_list_bytes t)) (sym (list_is view F ys)) ok in
@@ -120,7 +120,7 @@ module _ {T V : Type 0} {id : ℕ} {view : T → V} {make : List V → Subsectio
         kept = kept;
       }
 
-  list_appended : (s : NameSubsection) (ys : List T) (old new : List ℕ) (r : Result (Unit {0}) EncodeError) → s ≡ variant ys → OnOk r (new ≡ old ++ id ∷ byte_list_bytes (items_bytes (λ x. F.bytes (view x)) ys)) → OnOk r (CountedList (λ x. F.bytes (view x)) Can ys) → OnOk r (All (λ x. IsShortest F.Encodes F.bytes (view x)) ys)
+  list_appended : (s : NameSubsection) (ys : List T) (old new : List ℕ) (r : Result (Unit {0}) EncodeError) → s ≡ variant ys → OnOk r (new ≡ old ++ id ∷ byte_list_bytes (items_bytes (λ x. F.bytes (view x)) ys)) → OnOk r (CountedList (λ x. F.bytes (view x)) Can ys) → OnOk r (All (λ x. IsMinimal F.Encodes F.bytes (view x)) ys)
       → IfErr r (IsRefusal (CountedList (λ x. F.bytes (view x)) Can) OnlyTooLong ys) → take (length old) new ≡ old → AppendsSubsection s old new r
   list_appended s ys old new r is ok can all refused kept = subst (λ (t : NameSubsection). AppendsSubsection t old new r) (sym is) (of_variant ys old new r ok can all refused kept)
 
@@ -128,7 +128,7 @@ module _ {T V : Type 0} {id : ℕ} {view : T → V} {make : List V → Subsectio
 module _ {id : ℕ} {make : List NamingParts → SubsectionParts} (kind : IsKind id make (items naming)) (variant : List Naming → NameSubsection)
     (parts : (ys : List Naming) → subsection_parts (variant ys) ≡ make (map naming_parts ys)) (content : (ys : List Naming) → subsection_content (variant ys) ≡ items_bytes naming_bytes ys)
     (counted : (ys : List Naming) → CountedNames ys → CountedSubsection (variant ys)) (counts : (ys : List Naming) → CountedSubsection (variant ys) → CountedNames ys) where
-  pub names_appended : (s : NameSubsection) (ys : List Naming) (old new : List ℕ) (r : Result (Unit {0}) EncodeError) → s ≡ variant ys → OnOk r (new ≡ old ++ id ∷ byte_list_bytes (items_bytes naming_bytes ys)) → OnOk r (CountedNames ys) → OnOk r (All (λ n. IsShortest naming.Encodes naming.bytes (naming_parts n)) ys)
+  pub names_appended : (s : NameSubsection) (ys : List Naming) (old new : List ℕ) (r : Result (Unit {0}) EncodeError) → s ≡ variant ys → OnOk r (new ≡ old ++ id ∷ byte_list_bytes (items_bytes naming_bytes ys)) → OnOk r (CountedNames ys) → OnOk r (All (λ n. IsMinimal naming.Encodes naming.bytes (naming_parts n)) ys)
       → IfErr r (IsRefusal CountedNames OnlyTooLong ys) → take (length old) new ≡ old → AppendsSubsection s old new r
   names_appended = list_appended kind naming_is_lawful (λ n. IsCount (length n.name.now)) variant parts content counted counts
 
@@ -136,7 +136,7 @@ module _ {id : ℕ} {make : List NamingParts → SubsectionParts} (kind : IsKind
 module _ {id : ℕ} {make : List IndirectParts → SubsectionParts} (kind : IsKind id make (items indirect_naming)) (variant : List IndirectNaming → NameSubsection)
     (parts : (ys : List IndirectNaming) → subsection_parts (variant ys) ≡ make (map indirect_parts ys)) (content : (ys : List IndirectNaming) → subsection_content (variant ys) ≡ items_bytes indirect_bytes ys)
     (counted : (ys : List IndirectNaming) → CountedItems ys → CountedSubsection (variant ys)) (counts : (ys : List IndirectNaming) → CountedSubsection (variant ys) → CountedItems ys) where
-  pub items_appended : (s : NameSubsection) (ys : List IndirectNaming) (old new : List ℕ) (r : Result (Unit {0}) EncodeError) → s ≡ variant ys → OnOk r (new ≡ old ++ id ∷ byte_list_bytes (items_bytes indirect_bytes ys)) → OnOk r (CountedItems ys) → OnOk r (All (λ i. IsShortest indirect_naming.Encodes indirect_naming.bytes (indirect_parts i)) ys)
+  pub items_appended : (s : NameSubsection) (ys : List IndirectNaming) (old new : List ℕ) (r : Result (Unit {0}) EncodeError) → s ≡ variant ys → OnOk r (new ≡ old ++ id ∷ byte_list_bytes (items_bytes indirect_bytes ys)) → OnOk r (CountedItems ys) → OnOk r (All (λ i. IsMinimal indirect_naming.Encodes indirect_naming.bytes (indirect_parts i)) ys)
       → IfErr r (IsRefusal CountedItems OnlyTooLong ys) → take (length old) new ≡ old → AppendsSubsection s old new r
   items_appended = list_appended kind indirect_is_lawful (λ item. AreCountedNames item.names) variant parts content counted counts
 
@@ -153,18 +153,18 @@ both (Ok x) f p q = f p q
 both (Err e) f p q = tt
 
 pub module_appended : (s : NameSubsection) (text : Bor (List ℕ)) (old new : List ℕ) (r : Result (Unit {0}) EncodeError) → s ≡ read.Module text → OnOk r (new ≡ old ++ 0 ∷ byte_list_bytes (name.bytes text.now)) → OnOk r (IsCount (length text.now)) → OnOk r (IsCount (length (name.bytes text.now)))
-    → OnOk r (IsShortest name.Encodes name.bytes text.now) → IfErr r (λ e. ((e ≡ Memory) ⊎ ((IsCount (length text.now) → ⊥) × (e ≡ TooLong))) ⊎ IsTooLong (length (name.bytes text.now)) e) → take (length old) new ≡ old → AppendsSubsection s old new r
+    → OnOk r (IsMinimal name.Encodes name.bytes text.now) → IfErr r (λ e. ((e ≡ Memory) ⊎ ((IsCount (length text.now) → ⊥) × (e ≡ TooLong))) ⊎ IsTooLong (length (name.bytes text.now)) e) → take (length old) new ≡ old → AppendsSubsection s old new r
 module_appended s text old new r is ok can few all refused kept = subst (λ (t : NameSubsection). AppendsSubsection t old new r) (sym is) (record {
   ok = kind_appended module_name_kind (read.Module text) text.now refl refl old new r ok;
   can = both r (λ short whole. (short, whole)) can few;
-  written = where_written r (read.Module text) (λ shortest whole. kind_written module_name_kind (read.Module text) text.now refl refl (in_name text.now shortest) whole) all few;
+  written = where_written r (read.Module text) (λ minimal whole. kind_written module_name_kind (read.Module text) text.now refl refl (in_name text.now minimal) whole) all few;
   refused = text_refused (read.Module text) text.now r (λ counted. counted) refused;
   kept = kept;
 })
 
 -- a subsection of an unknown id
 unknown_written : (id : ℕ) (bytes : Bor (List ℕ)) → id < 256 → IsBytes bytes.now → IsCount (length bytes.now) → IsWrittenSubsection (read.Unknown id bytes)
-unknown_written id bytes small are few = λ far. (sym (unknown_bytes id far bytes.now), written subsection_is_lawful.shortest (unknown id bytes.now) (unknown_in_range id far small bytes.now are few))
+unknown_written id bytes small are few = λ far. (sym (unknown_bytes id far bytes.now), written subsection_is_lawful.minimal (unknown id bytes.now) (unknown_in_range id far small bytes.now are few))
 
 unknown_refused : {X : Type 0} (id : ℕ) (bytes : Bor (List ℕ)) (r : Result X EncodeError) → IfErr r (IsCountRefusal (length bytes.now)) → IfErr r (IsRefusal CountedSubsection OnlyTooLong (read.Unknown id bytes))
 unknown_refused id bytes (Ok x) none = tt

@@ -2,7 +2,7 @@
 use Rattle.std.specs.Prelude.{◌≡◌, ℕ, ◌⊎◌, List, ◌∷◌, length, true, Bool, Option, Some, None, Result, IfSome}
 use Rattle.wasm_codec.specs.declared.encode.EncodeError.{EncodeError}
 use Rattle.wasm_codec.specs.declared.encode.EncodeError.TheVariants.{SymbolFlags}
-use Rattle.wasm_codec.specs.Encoding.{IsCount, IsShortest}
+use Rattle.wasm_codec.specs.Encoding.{IsCount, IsMinimal}
 use Rattle.wasm_codec.specs.formats.Combinators.{minimal_only}
 use Rattle.wasm_lists.specs.EncodedLists.{EncodedItems, IsFull, IsMemoryOrTooLong, IsUncounted}
 use Rattle.wasm_sections.specs.ListSections.{Adds, GainsItem, StandsForItems}
@@ -39,7 +39,7 @@ name_length (table s) = text_length s.name
 
 -- If its parts are those that its flags ask for, the symbol has its minimal encoding.
 abbrev pub IsWrittenSymbol : SymbolParts → Type 0
-IsWrittenSymbol s = Agrees s → IsShortest symbol.Encodes symbol.bytes s
+IsWrittenSymbol s = Agrees s → IsMinimal symbol.Encodes symbol.bytes s
 
 -- The parts of the symbol aren't those that its flags ask for; or they are, and memory ran out, the table is full or the
 -- name is too long.

@@ -8,10 +8,10 @@ use Rattle.wasm_codec.specs.formats.Combinators.{items, minimal_only}
 use Rattle.wasm_externals.specs.declared.types.EntityType.{EntityType}
 use Rattle.wasm_externals.specs.declared.types.EntityType.TheVariants as types
 use Rattle.wasm_code.specs.formats.Modules.{raw_module, raw_section}
-use Rattle.wasm_code.specs.formats.Sections.{SectionParts, code_section_id}
+use Rattle.wasm_code.specs.formats.Sections.{SectionParts, code_section_id, first_body_of}
 use Rattle.wasm_sections.specs.formats.Entries.{import_entry}
 use Rattle.wasm_sections.specs.formats.EntryParts.{ImportParts}
-use Rattle.wasm_sections.specs.formats.ModuleSections.{module_section}
+use Rattle.wasm_sections.specs.formats.ModuleSections.{IsMinimalSection}
 use Rattle.wasm_sections.specs.formats.Sections.{custom_body}
 use Rattle.wasm_modules.specs.Offsets.{IsNameOf}
 use Rattle.wasm_custom_sections.specs.MinimalContents.{HasContents}
@@ -21,11 +21,6 @@ use Rattle.wasm_custom_sections.specs.NamedSections.{named}
 use Rattle.wasm_custom_sections.specs.declared.branch_hints.FunctionHints.{FunctionHints}
 use Rattle.wasm_custom_sections.specs.declared.moved_hints.HintedCode.{HintedCode}
 use Rattle.wasm_custom_sections.specs.formats.BranchHints.{function_hints}
-
--- The body of the first section with this id.
-abbrev pub first_body : ℕ → List SectionParts → Option (List ℕ)
-first_body id [] = None
-first_body id (s ∷ sections) = if s.id == id then Some s.body else first_body id sections
 
 -- The id of import sections (WebAssembly Core 3.0, Sections).
 abbrev pub import_section_id : ℕ
@@ -53,8 +48,8 @@ ImportsFunctions (Some body) count = (imports : List ImportParts) × (items impo
 pub record IsCodeOf (module_bytes : List ℕ) (code : HintedCode) : Type 0 where
   pub sections : List SectionParts
   pub encodes : raw_module.Encodes module_bytes sections
-  pub imported : ImportsFunctions (first_body import_section_id sections) code.imported_functions
-  pub body : first_body code_section_id sections ≡ Some code.code.items
+  pub imported : ImportsFunctions (first_body_of import_section_id sections) code.imported_functions
+  pub body : first_body_of code_section_id sections ≡ Some code.code.items
 
 -- The section is a custom section of branch hints.
 abbrev pub IsHintSection : SectionParts → Type 0
@@ -99,10 +94,6 @@ pub record MovesContents (imported : ℕ) (bodies : List (List ℕ)) (contents m
   pub others : List FunctionHints
   pub moves : Each (MovesFunction imported bodies) functions others
   pub written : moved ≡ (items function_hints).bytes others
-
--- The section is minimally encoded.
-abbrev pub IsMinimalSection : SectionParts → Type 0
-IsMinimalSection section = EncodesSome (minimal_only module_section).Encodes (raw_section.bytes section)
 
 -- The section was appended with its hints moved.
 pub record AppendsMoved (imported : ℕ) (bodies : List (List ℕ)) (section : SectionParts) (old new : List ℕ) : Type 0 where

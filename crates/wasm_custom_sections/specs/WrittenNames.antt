@@ -1,7 +1,7 @@
 -- Decoded subsections of a name section that are written (WebAssembly Core 3.0, Name Section).
 use Rattle.std.specs.Prelude.{ℕ, ◌≡◌, ◌<◌, ◌++◌, ◌∷◌, List, length, take, Result, OnOk, IfErr}
 use Rattle.wasm_codec.specs.declared.encode.EncodeError.{EncodeError}
-use Rattle.wasm_codec.specs.Encoding.{byte_list_bytes, CanEncodeList, IsCount, IsRefusal, IsShortest, OnlyTooLong}
+use Rattle.wasm_codec.specs.Encoding.{byte_list_bytes, CanEncodeList, IsCount, IsRefusal, IsMinimal, OnlyTooLong}
 use Rattle.wasm_codec.specs.Lists.{items_bytes}
 use Rattle.wasm_sections.specs.WrittenSections.{CountedList}
 use Rattle.wasm_externals.specs.formats.Names.{name}
@@ -79,7 +79,7 @@ HasUnknownId s = Unit {0}
 
 -- The minimal encoding of the subsection was written.
 abbrev pub IsWrittenSubsection : NameSubsection → Type 0
-IsWrittenSubsection s = HasUnknownId s → (subsection_bytes s ≡ name_subsection.bytes (subsection_parts s)) × IsShortest name_subsection.Encodes name_subsection.bytes (subsection_parts s)
+IsWrittenSubsection s = HasUnknownId s → (subsection_bytes s ≡ name_subsection.bytes (subsection_parts s)) × IsMinimal name_subsection.Encodes name_subsection.bytes (subsection_parts s)
 
 -- A function that appends the subsection.
 pub record AppendsSubsection (s : NameSubsection) (old new : List ℕ) (result : Result (Unit {0}) EncodeError) : Type 0 where

@@ -1,6 +1,6 @@
 //! The section `metadata.code.branch_hint`: which branches are likely taken (WebAssembly proposal, Branch Hinting).
 ghost use Rattle.std.specs.Prelude.{◌≡◌, ◌∷◌, ◌++◌, Bool, [], refl, codes, OnOk, IfErr, length, take};
-ghost use Rattle.wasm_codec.specs.Encoding.{IsCount, IsCountRefusal, IsShortest, OnlyTooLong};
+ghost use Rattle.wasm_codec.specs.Encoding.{IsCount, IsCountRefusal, IsMinimal, OnlyTooLong};
 ghost use Rattle.wasm_codec.specs.Lawful.{IsLawful};
 ghost use Rattle.wasm_codec.specs.Places.{Reads};
 ghost use Rattle.wasm_codec.specs.Rewriter.{Rewrites};
@@ -64,7 +64,7 @@ fn read_sized_value(cursor: &mut Cursor<'_>) -> Result<bool, Fault>
     if body.len() > 0 {
         return Err(Fault::Malformed(body.trailing()));
     }
-    cursor.set_shortest(body.is_shortest());
+    cursor.set_minimal(body.is_minimal());
     Ok(likely)
 }
 
@@ -228,7 +228,7 @@ fn value_byte(likely: bool) -> u8
 impl Encode for BranchHint {
     ghost bytes = { branch_hint.bytes };
 
-    ghost IsWritten = { IsShortest branch_hint.Encodes branch_hint.bytes };
+    ghost IsWritten = { IsMinimal branch_hint.Encodes branch_hint.bytes };
 
     fn encode<A: Allocator>(&self, sink: &mut Vec<u8, A>) -> Result<(), EncodeError> {
         sink.reserve(11)?;
@@ -250,7 +250,7 @@ struct HintsOf<'a> {
 fn append_hints<A: Allocator>(item: &HintsOf<'_>, sink: &mut Vec<u8, A>) -> Result<(), EncodeError>
     ensures ok { OnOk result (sink.new.items ≡ sink.old.items ++ function_hints.bytes (hints_of (item.now.function_index, item.now.hints.now))) }
     ensures can { OnOk result (IsCount (length item.now.hints.now)) }
-    ensures written { OnOk result (IsShortest function_hints.Encodes function_hints.bytes (hints_of (item.now.function_index, item.now.hints.now))) }
+    ensures written { OnOk result (IsMinimal function_hints.Encodes function_hints.bytes (hints_of (item.now.function_index, item.now.hints.now))) }
     ensures refused { IfErr result (IsCountRefusal (length item.now.hints.now)) }
     ensures kept { take (length sink.old.items) sink.new.items ≡ sink.old.items }
 {
@@ -265,7 +265,7 @@ fn append_hints<A: Allocator>(item: &HintsOf<'_>, sink: &mut Vec<u8, A>) -> Resu
 impl<'a> Encode for HintsOf<'a> {
     ghost bytes = { λ item. function_hints.bytes (hints_of (item.function_index, item.hints.now)) };
 
-    ghost IsWritten = { λ item. IsShortest function_hints.Encodes function_hints.bytes (hints_of (item.function_index, item.hints.now)) };
+    ghost IsWritten = { λ item. IsMinimal function_hints.Encodes function_hints.bytes (hints_of (item.function_index, item.hints.now)) };
 
     ghost CanEncode = { λ item. IsCount (length item.hints.now) };
 
@@ -284,7 +284,7 @@ impl<'a> Encode for HintsOf<'a> {
 impl Encode for FunctionHints {
     ghost bytes = { function_hints.bytes };
 
-    ghost IsWritten = { IsShortest function_hints.Encodes function_hints.bytes };
+    ghost IsWritten = { IsMinimal function_hints.Encodes function_hints.bytes };
 
     ghost CanEncode = { λ function. IsCount (length function.hints) };
 

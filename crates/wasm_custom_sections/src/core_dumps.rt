@@ -1,8 +1,8 @@
 //! Core dumps: the process, its modules and their instances (tool conventions, Core Dumps).
 ghost use Rattle.std.specs.Prelude.{◌≡◌, ◌++◌, ◌⊎◌, ℕ, List, refl, codes, ⊤, IfOk, OnOk, IfErr, length, take, ◌≤◌};
 ghost use Rattle.std.proofs.lemmas.List.{map_push};
-ghost use Rattle.wasm_codec.specs.Decoding.{ChecksAll, IsMinimal, RewritesInPlace};
-ghost use Rattle.wasm_codec.specs.Encoding.{IsCount, IsCountRefusal, IsRefusal, IsShortest, OnlyTooLong};
+ghost use Rattle.wasm_codec.specs.Decoding.{ChecksAll, TakesMinimal, RewritesInPlace};
+ghost use Rattle.wasm_codec.specs.Encoding.{IsCount, IsCountRefusal, IsRefusal, IsMinimal, OnlyTooLong};
 ghost use Rattle.wasm_codec.specs.Inputs.{Passes};
 ghost use Rattle.wasm_codec.specs.Lawful.{IsLawful, IsLawfulBody};
 ghost use Rattle.wasm_codec.specs.Outcomes.{IfMalformed, IsMalformed, LiesIn, NeedsNoMemory, as_read};
@@ -12,13 +12,12 @@ ghost use Rattle.wasm_codec.specs.formats.Combinators.{minimal_only};
 ghost use Rattle.wasm_codec.specs.formats.Grammar.{TakesBytes};
 ghost use Rattle.wasm_lists.specs.EncodedLists.{IsFull, IsMemoryOrTooLong, IsUncounted};
 ghost use Rattle.wasm_sections.specs.ListSections.{Adds, GainsItem};
-ghost use Rattle.wasm_sections.specs.Prefixes.{IsNothingOr};
+ghost use Rattle.wasm_code.specs.DecodedPrefixes.{ArePrefixes, IsNothingOr};
 ghost use Rattle.wasm_custom_sections.specs.CoreDumpSections.{HoldsProcess};
 ghost use Rattle.wasm_custom_sections.specs.Gaining.{AddsNamed};
 ghost use Rattle.wasm_custom_sections.specs.NamedSections.{CountedNamed, IsNamedSection, named_bytes};
 ghost use Rattle.wasm_custom_sections.specs.declared.core_dumps.CoreDumpInstance.{CoreDumpInstance};
 ghost use Rattle.wasm_custom_sections.specs.formats.CoreDumps.{all_module_names, core_instance, core_name, instance_of, module_name, process_name};
-ghost use Rattle.wasm_code.specs.DecodedPrefixes.{ArePrefixes};
 
 use crate::custom_list::{CustomItem, CustomList};
 use crate::whole_values::{Whole, append_named, read_value_to_end};
@@ -254,7 +253,7 @@ fn append_module<A: Allocator>(
 ) -> Result<(), EncodeError>
     ensures ok { OnOk result (sink.new.items ≡ sink.old.items ++ core_name.bytes item.now.name.now) }
     ensures can { OnOk result (IsCount (length item.now.name.now)) }
-    ensures written { OnOk result (IsShortest core_name.Encodes core_name.bytes item.now.name.now) }
+    ensures written { OnOk result (IsMinimal core_name.Encodes core_name.bytes item.now.name.now) }
     ensures refused { IfErr result (IsCountRefusal (length item.now.name.now)) }
     ensures kept { take (length sink.old.items) sink.new.items ≡ sink.old.items }
 {
@@ -269,7 +268,7 @@ fn append_module<A: Allocator>(
 impl<'a> Encode for CoreDumpModule<'a> {
     ghost bytes = { λ item. core_name.bytes item.name.now };
 
-    ghost IsWritten = { λ item. IsShortest core_name.Encodes core_name.bytes item.name.now };
+    ghost IsWritten = { λ item. IsMinimal core_name.Encodes core_name.bytes item.name.now };
 
     ghost CanEncode = { λ item. IsCount (length item.name.now) };
 
@@ -297,7 +296,7 @@ fn append_instance<A: Allocator>(
 ) -> Result<(), EncodeError>
     ensures ok { OnOk result (sink.new.items ≡ sink.old.items ++ core_instance.bytes (instance_of (item.now.module_index, (item.now.memories.now, item.now.globals.now)))) }
     ensures can { OnOk result (IsCount (length item.now.memories.now) × IsCount (length item.now.globals.now)) }
-    ensures written { OnOk result (IsShortest core_instance.Encodes core_instance.bytes (instance_of (item.now.module_index, (item.now.memories.now, item.now.globals.now)))) }
+    ensures written { OnOk result (IsMinimal core_instance.Encodes core_instance.bytes (instance_of (item.now.module_index, (item.now.memories.now, item.now.globals.now)))) }
     ensures refused { IfErr result (IsRefusal (λ x. IsCount (length x.memories.now) × IsCount (length x.globals.now)) OnlyTooLong item.now) }
     ensures kept { take (length sink.old.items) sink.new.items ≡ sink.old.items }
 {
@@ -314,7 +313,7 @@ fn append_instance<A: Allocator>(
 impl<'a> Encode for InstanceOf<'a> {
     ghost bytes = { λ item. core_instance.bytes (instance_of (item.module_index, (item.memories.now, item.globals.now))) };
 
-    ghost IsWritten = { λ item. IsShortest core_instance.Encodes core_instance.bytes (instance_of (item.module_index, (item.memories.now, item.globals.now))) };
+    ghost IsWritten = { λ item. IsMinimal core_instance.Encodes core_instance.bytes (instance_of (item.module_index, (item.memories.now, item.globals.now))) };
 
     ghost CanEncode = { λ item. IsCount (length item.memories.now) × IsCount (length item.globals.now) };
 
@@ -366,7 +365,7 @@ impl<'a> Decode<'a> for CoreDumpSection<'a> {
     #[tactic(auto, using(crate::proofs::CoreDumpLaws::core_name_body_is_lawful))]
     fn is_lawful()
         ensures lawful { IsLawfulBody core_name }
-        ensures minimal { IsMinimal core_name (minimal_only core_name).Encodes }
+        ensures minimal { TakesMinimal core_name (minimal_only core_name).Encodes }
         ensures prefixes { ArePrefixes core_name.Encodes (IsNothingOr core_name) }
         ensures minimal_prefixes { ArePrefixes (minimal_only core_name).Encodes (IsNothingOr (minimal_only core_name)) }
     {}

@@ -1,8 +1,8 @@
 //! Core dumps: the stack of a thread (tool conventions, Core Dumps).
 ghost use Rattle.std.specs.Prelude.{◌≡◌, ◌↔◌, ◌++◌, ◌⊎◌, [], refl, codes, ⊤, IsTrue, IfOk, OnOk, IfErr, length, take, ◌≤◌};
 ghost use Rattle.std.proofs.lemmas.List.{map_push};
-ghost use Rattle.wasm_codec.specs.Decoding.{ChecksAll, IsMinimal, RewritesInPlace};
-ghost use Rattle.wasm_codec.specs.Encoding.{IsCount, IsCountRefusal, IsRefusal, IsShortest, OnlyTooLong};
+ghost use Rattle.wasm_codec.specs.Decoding.{ChecksAll, TakesMinimal, RewritesInPlace};
+ghost use Rattle.wasm_codec.specs.Encoding.{IsCount, IsCountRefusal, IsRefusal, IsMinimal, OnlyTooLong};
 ghost use Rattle.wasm_codec.specs.Lawful.{IsLawful, IsLawfulBody};
 ghost use Rattle.wasm_codec.specs.Outcomes.{IfMalformed, LiesIn, NeedsNoMemory, as_read};
 ghost use Rattle.wasm_codec.specs.Places.{Reads};
@@ -13,12 +13,11 @@ ghost use Rattle.wasm_codec.specs.formats.Grammar.{TakesBytes};
 ghost use Rattle.wasm_externals.specs.Making.{Makes};
 ghost use Rattle.wasm_lists.specs.EncodedLists.{IsFull, IsMemoryOrTooLong, IsUncounted};
 ghost use Rattle.wasm_sections.specs.ListSections.{Adds, GainsItem, StandsForItems};
-ghost use Rattle.wasm_sections.specs.Prefixes.{IsNothingOr};
+ghost use Rattle.wasm_code.specs.DecodedPrefixes.{ArePrefixes, IsNothingOr};
 ghost use Rattle.wasm_custom_sections.specs.CoreDumpSections.{HoldsStack, stack_bytes};
 ghost use Rattle.wasm_custom_sections.specs.NamedSections.{CountedNamed, IsNamedSection, named_bytes};
 ghost use Rattle.wasm_custom_sections.specs.declared.core_stacks.CoreDumpStackFrame.{CoreDumpStackFrame};
 ghost use Rattle.wasm_custom_sections.specs.formats.CoreStacks.{StackParts, all_stack_parts, core_frame, core_stack, frame_of, stack_parts};
-ghost use Rattle.wasm_code.specs.DecodedPrefixes.{ArePrefixes};
 
 use crate::core_values::CoreDumpValue;
 use crate::counted_bytes::CountedBytes;
@@ -192,7 +191,7 @@ struct FrameOf<'a> {
 fn append_frame<A: Allocator>(item: &FrameOf<'_>, sink: &mut Vec<u8, A>) -> Result<(), EncodeError>
     ensures ok { OnOk result (sink.new.items ≡ sink.old.items ++ core_frame.bytes (frame_of (item.now.instance_index, (item.now.function_index, (item.now.code_offset, (item.now.locals.now, item.now.stack.now)))))) }
     ensures can { OnOk result (IsCount (length item.now.locals.now) × IsCount (length item.now.stack.now)) }
-    ensures written { OnOk result (IsShortest core_frame.Encodes core_frame.bytes (frame_of (item.now.instance_index, (item.now.function_index, (item.now.code_offset, (item.now.locals.now, item.now.stack.now)))))) }
+    ensures written { OnOk result (IsMinimal core_frame.Encodes core_frame.bytes (frame_of (item.now.instance_index, (item.now.function_index, (item.now.code_offset, (item.now.locals.now, item.now.stack.now)))))) }
     ensures refused { IfErr result (IsRefusal (λ x. IsCount (length x.locals.now) × IsCount (length x.stack.now)) OnlyTooLong item.now) }
     ensures kept { take (length sink.old.items) sink.new.items ≡ sink.old.items }
 {
@@ -212,7 +211,7 @@ fn append_frame<A: Allocator>(item: &FrameOf<'_>, sink: &mut Vec<u8, A>) -> Resu
 impl<'a> Encode for FrameOf<'a> {
     ghost bytes = { λ item. core_frame.bytes (frame_of (item.instance_index, (item.function_index, (item.code_offset, (item.locals.now, item.stack.now))))) };
 
-    ghost IsWritten = { λ item. IsShortest core_frame.Encodes core_frame.bytes (frame_of (item.instance_index, (item.function_index, (item.code_offset, (item.locals.now, item.stack.now))))) };
+    ghost IsWritten = { λ item. IsMinimal core_frame.Encodes core_frame.bytes (frame_of (item.instance_index, (item.function_index, (item.code_offset, (item.locals.now, item.stack.now))))) };
 
     ghost CanEncode = { λ item. IsCount (length item.locals.now) × IsCount (length item.stack.now) };
 
@@ -438,7 +437,7 @@ impl<'a> Decode<'a> for CoreDumpStackSection<'a> {
     #[tactic(auto, using(crate::proofs::CoreStackLaws::stack_body_is_lawful))]
     fn is_lawful()
         ensures lawful { IsLawfulBody core_stack }
-        ensures minimal { IsMinimal core_stack (minimal_only core_stack).Encodes }
+        ensures minimal { TakesMinimal core_stack (minimal_only core_stack).Encodes }
         ensures prefixes { ArePrefixes core_stack.Encodes (IsNothingOr core_stack) }
         ensures minimal_prefixes { ArePrefixes (minimal_only core_stack).Encodes (IsNothingOr (minimal_only core_stack)) }
     {}

@@ -1,6 +1,6 @@
 //! Values in core dumps: of locals, and on the stack (tool conventions, Core Dumps).
 ghost use Rattle.std.specs.Prelude.{refl, IfErr};
-ghost use Rattle.wasm_codec.specs.Encoding.{IsShortest};
+ghost use Rattle.wasm_codec.specs.Encoding.{IsMinimal};
 ghost use Rattle.wasm_codec.specs.Inputs.{Passes, Takes};
 ghost use Rattle.wasm_codec.specs.Outcomes.{IsMalformed};
 ghost use Rattle.wasm_codec.specs.formats.Combinators.{little_endian, s32 as s32_format, s64 as s64_format};
@@ -162,7 +162,7 @@ impl<'a> Readable<'a> for CoreDumpValue {
 impl Encode for CoreDumpValue {
     ghost bytes = { core_value.bytes };
 
-    ghost IsWritten = { IsShortest core_value.Encodes core_value.bytes };
+    ghost IsWritten = { IsMinimal core_value.Encodes core_value.bytes };
 
     fn encode<A: Allocator>(&self, sink: &mut Vec<u8, A>) -> Result<(), EncodeError> {
         sink.reserve(11)?;

@@ -2,7 +2,7 @@
 //! Linking).
 ghost use Rattle.std.specs.Prelude.{◌≡◌, ◌∷◌, ◌++◌, ◌+◌, ◌-◌, ◌<◌, ◌≤◌, ◌⊎◌, ℕ, List, None, [], refl, codes, true, IfOk, IfErr, OnOk, length, ⊤};
 ghost use Rattle.std.proofs.lemmas.List.{map_push};
-ghost use Rattle.wasm_codec.specs.Decoding.{ChecksAll, IsMinimal, ReadsAll, RewritesInPlace, RewritesTo};
+ghost use Rattle.wasm_codec.specs.Decoding.{ChecksAll, TakesMinimal, ReadsAll, RewritesInPlace, RewritesTo};
 ghost use Rattle.wasm_codec.specs.Encoding.{byte_list_bytes, OnlyTooLong};
 ghost use Rattle.wasm_codec.specs.Lawful.{IsLawful, IsLawfulBody};
 ghost use Rattle.wasm_codec.specs.Outcomes.{IfMalformed, LiesIn, as_read, read_error_of, IsMalformed, NeedsNoMemory};
@@ -16,13 +16,12 @@ ghost use Rattle.wasm_codec.specs.formats.Grammar.{TakesBytes};
 ghost use Rattle.wasm_externals.specs.Making.{Makes};
 ghost use Rattle.wasm_lists.specs.EncodedLists.{IsFull, IsMemoryOrTooLong, IsUncounted, body_bytes};
 ghost use Rattle.wasm_sections.specs.ListSections.{Adds, StandsForItems};
-ghost use Rattle.wasm_sections.specs.Prefixes.{IsNothingOr};
+ghost use Rattle.wasm_code.specs.DecodedPrefixes.{ArePrefixes, IsNothingOr};
 ghost use Rattle.wasm_custom_sections.specs.Gaining.{GainsWith};
 ghost use Rattle.wasm_custom_sections.specs.LinkingSections.{HoldsLinking};
 ghost use Rattle.wasm_custom_sections.specs.NamedSections.{CountedNamed, IsNamedSection, named_bytes};
 ghost use Rattle.wasm_custom_sections.specs.formats.Linking.{LinkingParts, all_linking_parts, linking_data, linking_if, linking_parts, linking_subsection, symbols, version, versioned};
 ghost use Rattle.wasm_custom_sections.specs.formats.Symbols.{symbol};
-ghost use Rattle.wasm_code.specs.DecodedPrefixes.{ArePrefixes};
 
 use crate::counted_bytes::CountedBytes;
 use crate::sized::read_sized_bytes;
@@ -158,7 +157,7 @@ fn read_version<const STRICT: bool>(cursor: &mut Cursor<'_>) -> Result<u32, Faul
         let reason = Reason::InvalidNumber { construct, number };
         return Err(Fault::Malformed(Malformed::new(reason, start)));
     }
-    if STRICT && !cursor.is_shortest() {
+    if STRICT && !cursor.is_minimal() {
         return Err(Fault::Malformed(Malformed::new(Reason::LongForm, start)));
     }
     Ok(number)
@@ -171,8 +170,7 @@ fn after_version<'a, const STRICT: bool>(bytes: &'a [u8]) -> Result<&'a [u8], Fa
     ensures none { IfErr result (λ _. (minimal_if STRICT version).at (place true bytes.now) ≡ None) }
 {
     let mut cursor = Cursor::new(bytes);
-    // `fork` shows the proof that all remaining items are bytes.
-    let _start = cursor.fork();
+    cursor.are_bytes();
     read_version::<STRICT>(&mut cursor)?;
     let left = cursor.len();
     cursor.take(left, Construct::Body)
@@ -427,7 +425,7 @@ impl<'a> Decode<'a> for LinkingSection {
     #[tactic(auto, using(crate::proofs::LinkingLaws::data_is_lawful, crate::proofs::LinkingLaws::data_is_minimal))]
     fn is_lawful()
         ensures lawful { IsLawfulBody linking_data }
-        ensures minimal { IsMinimal linking_data (linking_if true).Encodes }
+        ensures minimal { TakesMinimal linking_data (linking_if true).Encodes }
         ensures prefixes { ArePrefixes linking_data.Encodes (IsNothingOr linking_data) }
         ensures minimal_prefixes { ArePrefixes (linking_if true).Encodes (IsNothingOr (linking_if true)) }
     {}

@@ -7,7 +7,7 @@ ghost use Rattle.wasm_code.specs.formats.Modules.{raw_section};
 ghost use Rattle.wasm_code.specs.formats.Sections.{SectionParts, header, parts_of};
 ghost use Rattle.wasm_custom_sections.specs.LongerContents.{HasLongerContents, IsFirstLonger, IsLongerInside, IsMinimalInside, IsWritten};
 ghost use Rattle.wasm_custom_sections.specs.MinimalContents.{MinimisesContents};
-ghost use Rattle.wasm_sections.specs.formats.ModuleSections.{ShortestWholeModule};
+ghost use Rattle.wasm_sections.specs.formats.ModuleSections.{MinimalWholeModule};
 
 use crate::contents::{Decoded, contents_of, rewrite_contents};
 use crate::names::NameSection;
@@ -31,7 +31,7 @@ use wasm_sections::custom::read_custom;
 pub fn find_longer_contents(alloc: Global, module: &[u8]) -> Result<Option<Refusal>, AllocError>
     ensures none { IfOk result (λ found. IfNone found (MinimisesContents module.now module.now)) }
     ensures some { IfOk result (λ found. IfSome found (λ _. HasLongerContents module.now)) }
-    ensures first { IfOk result (λ found. IfSome found (λ refusal. EncodesSome ShortestWholeModule module.now → IsFirstLonger module.now refusal.at)) }
+    ensures first { IfOk result (λ found. IfSome found (λ refusal. EncodesSome MinimalWholeModule module.now → IsFirstLonger module.now refusal.at)) }
 {
     let minimal = rewrite_contents(alloc, Vec::from_slice(alloc, module)?)?;
     if minimal.as_slice() == module {
@@ -44,7 +44,7 @@ pub fn find_longer_contents(alloc: Global, module: &[u8]) -> Result<Option<Refus
 /// Locates the first contents that aren't minimally encoded, in a minimally encoded module that has some.
 #[tactic(auto, using(crate::proofs::LongerWalk::has_header))]
 fn locate_longer(alloc: Global, module: &[u8]) -> Result<Refusal, AllocError>
-    ensures first { IfOk result (λ refusal. EncodesSome ShortestWholeModule module.now → HasLongerContents module.now → IsFirstLonger module.now refusal.at) }
+    ensures first { IfOk result (λ refusal. EncodesSome MinimalWholeModule module.now → HasLongerContents module.now → IsFirstLonger module.now refusal.at) }
 {
     let Some(sections) = after_header(module) else {
         return Ok(no_refusal());
@@ -83,8 +83,7 @@ fn first_longer(alloc: Global, sections: &[u8]) -> Result<Option<Refusal>, Alloc
     let mut cursor = Cursor::new(sections);
     let mut number = 0_usize;
     while cursor.len() > 0 {
-        // `fork` shows the proof that all remaining items are bytes.
-        let _start = cursor.fork();
+        cursor.are_bytes();
         let at = sections.len() - cursor.len();
         let Ok(section) = read_section(&mut cursor) else {
             return Ok(None);
@@ -152,7 +151,7 @@ fn check_minimal<'a, T: Decode<'a>>(
 fn longer_number(bytes: &[u8]) -> Reason {
     let mut cursor = Cursor::new(bytes);
     match cursor.u32() {
-        Ok(number) if !cursor.is_shortest() => Reason::NotMinimal {
+        Ok(number) if !cursor.is_minimal() => Reason::NotMinimal {
             bytes: bytes.len().saturating_sub(cursor.len()),
             minimal: u32_len(number),
         },

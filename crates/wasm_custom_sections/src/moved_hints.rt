@@ -1,10 +1,10 @@
 //! Branch hints of a module whose code gets its minimal encoding: their offsets move with their instructions
 //! (WebAssembly proposal, Branch Hinting).
 ghost use Rattle.std.specs.Prelude.{◌≡◌, Some, None, Ok, true, IfOk, IfSome, IfNone};
-ghost use Rattle.wasm_code.specs.formats.Sections.{all_parts_of, parts_of};
+ghost use Rattle.wasm_code.specs.formats.Sections.{all_parts_of, first_body_of, parts_of};
 ghost use Rattle.wasm_sections.specs.formats.EntryParts.{all_import_parts};
 ghost use Rattle.wasm_sections.specs.formats.ModuleSections.{KeepsMinimal};
-ghost use Rattle.wasm_custom_sections.specs.MovedHints.{AppendsMoved, HasHintBytes, ImportsFunctions, IsCodeOf, IsHintSection, MovesContents, MovesHints, first_body, function_imports, import_section_id, is_function as function_type};
+ghost use Rattle.wasm_custom_sections.specs.MovedHints.{AppendsMoved, HasHintBytes, ImportsFunctions, IsCodeOf, IsHintSection, MovesContents, MovesHints, function_imports, import_section_id, is_function as function_type};
 ghost use Rattle.wasm_custom_sections.specs.MovedFunctions.{all_bodies};
 
 pub mod functions;
@@ -14,7 +14,7 @@ use crate::branch_hints::FunctionHints;
 use crate::moved_hints::functions::{BodyBytes, moved_functions};
 use std::alloc::{AllocError, Global};
 use wasm_code::raw::read_module;
-use wasm_code::section::{CODE_SECTION_ID, HEADER, RawSection, append_section};
+use wasm_code::section::{CODE_SECTION_ID, HEADER, RawSection, append_section, first_body};
 use wasm_codec::encode::EncodeError;
 use wasm_codec::reader::{DecodeError, ReadError};
 use wasm_externals::types::EntityType;
@@ -72,7 +72,7 @@ impl HintedCode {
         if !has_hints(sections.as_slice()) {
             return Ok(None);
         }
-        let Some(code) = first_body(CODE_SECTION_ID, sections.as_slice()) else {
+        let Some(code) = first_body(sections.as_slice(), CODE_SECTION_ID) else {
             return Ok(None);
         };
         let Some(imported_functions) = imported_functions(alloc, sections.as_slice())? else {
@@ -131,27 +131,14 @@ fn has_hints(sections: &[RawSection<'_>]) -> bool {
     false
 }
 
-/// Returns the body of the first section with this id.
-fn first_body<'a>(id: u8, sections: &[RawSection<'a>]) -> Option<&'a [u8]>
-    ensures some { IfSome result (λ body. first_body id (all_parts_of sections.now) ≡ Some body.now) }
-    ensures none { IfNone result (first_body id (all_parts_of sections.now) ≡ None) }
-{
-    for section in sections {
-        if section.id == id {
-            return Some(section.body);
-        }
-    }
-    None
-}
-
 /// Returns how many functions are imported. `None` means that the import section is malformed. Fails if memory runs out.
 fn imported_functions(
     alloc: Global,
     sections: &[RawSection<'_>],
 ) -> Result<Option<usize>, AllocError>
-    ensures count { IfOk result (λ found. IfSome found (ImportsFunctions (first_body import_section_id (all_parts_of sections.now)))) }
+    ensures count { IfOk result (λ found. IfSome found (ImportsFunctions (first_body_of import_section_id (all_parts_of sections.now)))) }
 {
-    let Some(body) = first_body(IMPORT_SECTION_ID, sections) else {
+    let Some(body) = first_body(sections, IMPORT_SECTION_ID) else {
         return Ok(Some(0));
     };
     match read_list_to_end::<Import<'_>, false>(alloc, body) {

@@ -1,7 +1,7 @@
 //! Names for indices, and lists of them (Core 3.0, Name Section).
 ghost use Rattle.std.specs.Prelude.{◌≡◌, ◌↔◌, ◌++◌, [], refl, IsTrue, OnOk, OnErr, IfErr, length, take};
 ghost use Rattle.std.proofs.lemmas.List.{map_push};
-ghost use Rattle.wasm_codec.specs.Encoding.{IsCount, IsCountRefusal, IsRefusal, IsShortest, OnlyTooLong};
+ghost use Rattle.wasm_codec.specs.Encoding.{IsCount, IsCountRefusal, IsRefusal, IsMinimal, OnlyTooLong};
 ghost use Rattle.wasm_codec.specs.Lawful.{IsLawful};
 ghost use Rattle.wasm_codec.specs.Leb128.{unsigned_leb128};
 ghost use Rattle.wasm_codec.specs.Inputs.{Passes};
@@ -164,7 +164,7 @@ impl Rewritable for AnyIndirectNaming {
 fn append_naming<A: Allocator>(item: &Naming<'_>, sink: &mut Vec<u8, A>) -> Result<(), EncodeError>
     ensures ok { OnOk result (sink.new.items ≡ sink.old.items ++ naming.bytes (naming_parts item.now)) }
     ensures can { OnOk result (IsCount (length item.now.name.now)) }
-    ensures written { OnOk result (IsShortest naming.Encodes naming.bytes (naming_parts item.now)) }
+    ensures written { OnOk result (IsMinimal naming.Encodes naming.bytes (naming_parts item.now)) }
     ensures refused { IfErr result (IsCountRefusal (length item.now.name.now)) }
     ensures kept { take (length sink.old.items) sink.new.items ≡ sink.old.items }
 {
@@ -179,7 +179,7 @@ fn append_naming<A: Allocator>(item: &Naming<'_>, sink: &mut Vec<u8, A>) -> Resu
 impl<'a> Encode for Naming<'a> {
     ghost bytes = { λ item. naming.bytes (naming_parts item) };
 
-    ghost IsWritten = { λ item. IsShortest naming.Encodes naming.bytes (naming_parts item) };
+    ghost IsWritten = { λ item. IsMinimal naming.Encodes naming.bytes (naming_parts item) };
 
     ghost CanEncode = { λ item. IsCount (length item.name.now) };
 
@@ -199,7 +199,7 @@ fn append_indirect_naming<A: Allocator>(
 ) -> Result<(), EncodeError>
     ensures ok { OnOk result (sink.new.items ≡ sink.old.items ++ indirect_naming.bytes (indirect_parts item.now)) }
     ensures can { OnOk result (AreCountedNames item.now.names) }
-    ensures written { OnOk result (IsShortest indirect_naming.Encodes indirect_naming.bytes (indirect_parts item.now)) }
+    ensures written { OnOk result (IsMinimal indirect_naming.Encodes indirect_naming.bytes (indirect_parts item.now)) }
     ensures refused { IfErr result (IsRefusal (λ i. AreCountedNames i.names) OnlyTooLong item.now) }
     ensures kept { take (length sink.old.items) sink.new.items ≡ sink.old.items }
 {
@@ -214,7 +214,7 @@ fn append_indirect_naming<A: Allocator>(
 impl<'a> Encode for IndirectNaming<'a> {
     ghost bytes = { λ item. indirect_naming.bytes (indirect_parts item) };
 
-    ghost IsWritten = { λ item. IsShortest indirect_naming.Encodes indirect_naming.bytes (indirect_parts item) };
+    ghost IsWritten = { λ item. IsMinimal indirect_naming.Encodes indirect_naming.bytes (indirect_parts item) };
 
     ghost CanEncode = { λ item. AreCountedNames item.names };
 

@@ -2,8 +2,8 @@
 //! of extended name sections).
 ghost use Rattle.std.specs.Prelude.{◌≡◌, ◌++◌, ◌∷◌, ◌+◌, ◌<◌, ◌≤◌, ◌⊎◌, [], refl, codes, List, OnOk, OnErr, IfErr, IsErrOf, length, ⊤, IfOk};
 ghost use Rattle.std.proofs.lemmas.List.{map_push};
-ghost use Rattle.wasm_codec.specs.Decoding.{ChecksAll, IsMinimal, RewritesInPlace};
-ghost use Rattle.wasm_codec.specs.Encoding.{byte_list_bytes, IsCount, IsRefusal, IsShortest, IsTooLong, OnlyTooLong};
+ghost use Rattle.wasm_codec.specs.Decoding.{ChecksAll, TakesMinimal, RewritesInPlace};
+ghost use Rattle.wasm_codec.specs.Encoding.{byte_list_bytes, IsCount, IsRefusal, IsMinimal, IsTooLong, OnlyTooLong};
 ghost use Rattle.wasm_codec.specs.Lawful.{IsLawful, IsLawfulBody};
 ghost use Rattle.wasm_codec.specs.Outcomes.{IfMalformed, LiesIn, as_read, EncodesSome, NeedsNoMemory};
 ghost use Rattle.wasm_codec.specs.Places.{Reads};
@@ -469,7 +469,7 @@ pub(crate) struct ModuleName<'a> {
 impl<'a> Encode for ModuleName<'a> {
     ghost bytes = { λ item. name_format.bytes item.name.now };
 
-    ghost IsWritten = { λ item. IsShortest name_format.Encodes name_format.bytes item.name.now };
+    ghost IsWritten = { λ item. IsMinimal name_format.Encodes name_format.bytes item.name.now };
 
     ghost CanEncode = { λ item. IsCount (length item.name.now) };
 
@@ -524,7 +524,7 @@ impl<'a> Decode<'a> for NameSection {
     #[tactic(auto, using(crate::proofs::SubsectionLaws::name_data_is_lawful, crate::proofs::SubsectionLaws::name_data_is_minimal))]
     fn is_lawful()
         ensures lawful { IsLawfulBody name_data }
-        ensures minimal { IsMinimal name_data (Joined (minimal_only name_subsection).Encodes) }
+        ensures minimal { TakesMinimal name_data (Joined (minimal_only name_subsection).Encodes) }
         ensures prefixes { ArePrefixes name_data.Encodes (EncodesSome (Joined name_subsection.Encodes)) }
         ensures minimal_prefixes { ArePrefixes (Joined (minimal_only name_subsection).Encodes) (EncodesSome (Joined (minimal_only name_subsection).Encodes)) }
     {}

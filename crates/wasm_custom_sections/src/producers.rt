@@ -1,7 +1,7 @@
 //! The section `producers`: the languages and tools that a module was made with (tool conventions, Producers Section).
 ghost use Rattle.std.specs.Prelude.{◌≡◌, ◌↔◌, ◌++◌, ◌⊎◌, [], refl, codes, IsTrue, OnOk, IfErr, length, take};
 ghost use Rattle.std.proofs.lemmas.List.{map_push};
-ghost use Rattle.wasm_codec.specs.Encoding.{IsCount, IsRefusal, IsCountRefusal, IsShortest, OnlyTooLong};
+ghost use Rattle.wasm_codec.specs.Encoding.{IsCount, IsRefusal, IsCountRefusal, IsMinimal, OnlyTooLong};
 ghost use Rattle.wasm_codec.specs.Lawful.{IsLawful};
 ghost use Rattle.wasm_codec.specs.Inputs.{Passes};
 ghost use Rattle.wasm_codec.specs.Places.{Reads};
@@ -165,7 +165,7 @@ fn append_producer<A: Allocator>(
 ) -> Result<(), EncodeError>
     ensures ok { OnOk result (sink.new.items ≡ sink.old.items ++ producer.bytes (producer_parts item.now)) }
     ensures can { OnOk result (IsCount (length item.now.name.now) × IsCount (length item.now.version.now)) }
-    ensures written { OnOk result (IsShortest producer.Encodes producer.bytes (producer_parts item.now)) }
+    ensures written { OnOk result (IsMinimal producer.Encodes producer.bytes (producer_parts item.now)) }
     ensures refused { IfErr result (IsRefusal (λ x. IsCount (length x.name.now) × IsCount (length x.version.now)) OnlyTooLong item.now) }
     ensures kept { take (length sink.old.items) sink.new.items ≡ sink.old.items }
 {
@@ -179,7 +179,7 @@ fn append_producer<A: Allocator>(
 impl<'a> Encode for Producer<'a> {
     ghost bytes = { λ item. producer.bytes (producer_parts item) };
 
-    ghost IsWritten = { λ item. IsShortest producer.Encodes producer.bytes (producer_parts item) };
+    ghost IsWritten = { λ item. IsMinimal producer.Encodes producer.bytes (producer_parts item) };
 
     ghost CanEncode = { λ item. IsCount (length item.name.now) × IsCount (length item.version.now) };
 
@@ -287,7 +287,7 @@ fn append_field<A: Allocator>(
 ) -> Result<(), EncodeError>
     ensures ok { OnOk result (sink.new.items ≡ sink.old.items ++ (name_format.bytes item.now.name.now ++ body_bytes item.now.values.now)) }
     ensures can { OnOk result (IsCount (length item.now.name.now)) }
-    ensures written { OnOk result (IsShortest name_format.Encodes name_format.bytes item.now.name.now × IsCount item.now.values.now.count) }
+    ensures written { OnOk result (IsMinimal name_format.Encodes name_format.bytes item.now.name.now × IsCount item.now.values.now.count) }
     ensures refused { IfErr result (IsCountRefusal (length item.now.name.now)) }
     ensures kept { take (length sink.old.items) sink.new.items ≡ sink.old.items }
 {
@@ -301,7 +301,7 @@ fn append_field<A: Allocator>(
 impl<'a> Encode for NamedField<'a> {
     ghost bytes = { λ item. name_format.bytes item.name.now ++ body_bytes item.values.now };
 
-    ghost IsWritten = { λ item. IsShortest name_format.Encodes name_format.bytes item.name.now × IsCount item.values.now.count };
+    ghost IsWritten = { λ item. IsMinimal name_format.Encodes name_format.bytes item.name.now × IsCount item.values.now.count };
 
     ghost CanEncode = { λ item. IsCount (length item.name.now) };
 

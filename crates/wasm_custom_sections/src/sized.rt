@@ -27,7 +27,7 @@ pub(crate) fn read_sized_name<'a>(cursor: &mut Cursor<'a>) -> Result<&'a str, Fa
     if body.len() > 0 {
         return Err(Fault::Malformed(body.trailing()));
     }
-    cursor.set_shortest(body.is_shortest());
+    cursor.set_minimal(body.is_minimal());
     Ok(text)
 }
 

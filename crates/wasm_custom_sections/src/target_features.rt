@@ -2,7 +2,7 @@
 //! Section).
 ghost use Rattle.std.specs.Prelude.{◌≡◌, ◌∷◌, ◌++◌, [], refl, codes, OnOk, IfErr, length, take};
 ghost use Rattle.std.proofs.lemmas.List.{map_push};
-ghost use Rattle.wasm_codec.specs.Encoding.{IsCount, IsCountRefusal, IsShortest, OnlyTooLong};
+ghost use Rattle.wasm_codec.specs.Encoding.{IsCount, IsCountRefusal, IsMinimal, OnlyTooLong};
 ghost use Rattle.wasm_codec.specs.Lawful.{IsLawful};
 ghost use Rattle.wasm_codec.specs.Inputs.{Passes, Takes};
 ghost use Rattle.wasm_codec.specs.Rewriter.{Rewrites};
@@ -131,7 +131,7 @@ fn append_feature<A: Allocator>(
 ) -> Result<(), EncodeError>
     ensures ok { OnOk result (sink.new.items ≡ sink.old.items ++ target_feature.bytes (feature_parts item.now)) }
     ensures can { OnOk result (IsCount (length item.now.name.now)) }
-    ensures written { OnOk result (IsShortest target_feature.Encodes target_feature.bytes (feature_parts item.now)) }
+    ensures written { OnOk result (IsMinimal target_feature.Encodes target_feature.bytes (feature_parts item.now)) }
     ensures refused { IfErr result (IsCountRefusal (length item.now.name.now)) }
     ensures kept { take (length sink.old.items) sink.new.items ≡ sink.old.items }
 {
@@ -146,7 +146,7 @@ fn append_feature<A: Allocator>(
 impl<'a> Encode for TargetFeature<'a> {
     ghost bytes = { λ item. target_feature.bytes (feature_parts item) };
 
-    ghost IsWritten = { λ item. IsShortest target_feature.Encodes target_feature.bytes (feature_parts item) };
+    ghost IsWritten = { λ item. IsMinimal target_feature.Encodes target_feature.bytes (feature_parts item) };
 
     ghost CanEncode = { λ item. IsCount (length item.name.now) };
 

@@ -5,7 +5,7 @@ ghost use Rattle.wasm_codec.specs.Encoding.{IsCount, IsRefusal, IsTooLong};
 ghost use Rattle.wasm_codec.specs.Outcomes.{LiesIn, as_read};
 ghost use Rattle.wasm_codec.specs.declared.encode.EncodeError.TheVariants.{TooLong};
 ghost use Rattle.wasm_codec.specs.formats.Combinators.{minimal_if};
-ghost use Rattle.wasm_sections.specs.Prefixes.{IsNothingOr};
+ghost use Rattle.wasm_code.specs.DecodedPrefixes.{IsNothingOr};
 ghost use Rattle.wasm_custom_sections.specs.NamedSections.{CountedNamed, IsNamedSection, named_bytes};
 
 use std::alloc::{Allocator, Global};

@@ -69,7 +69,7 @@ built sections m h =
     record {
       bytes = is;
       closed = λ closed. (flat_map bytes_of sections, h.bytes, all_joined sections h.written closed);
-      encoded = λ bytes g. (whole_module_is_minimal m (all_module_section_parts sections)).1 (subst (λ (b : List ℕ). whole_module.Encodes b (all_module_section_parts sections)) (sym is) (whole_module_is_lawful.shortest.again bytes (all_module_section_parts sections) g), is);
+      encoded = λ bytes g. (whole_module_is_minimal m (all_module_section_parts sections)).1 (subst (λ (b : List ℕ). whole_module.Encodes b (all_module_section_parts sections)) (sym is) (whole_module_is_lawful.minimal.again bytes (all_module_section_parts sections) g), is);
       can = h.can;
       refused = tt;
       memory = λ bytes g. tt;

@@ -7,15 +7,15 @@ use Rattle.std.proofs.lemmas.List.{append-nil}
 use Rattle.wasm_types.specs.declared.types.value.ValType.{ValType}
 use Rattle.wasm_codec.specs.declared.encode.EncodeError.{EncodeError}
 use Rattle.wasm_codec.specs.declared.encode.EncodeError.TheVariants.{TooLong}
-use Rattle.wasm_codec.specs.Encoding.{byte_list_bytes, IsCount, IsRefusal, IsShortest, OnlyTooLong}
+use Rattle.wasm_codec.specs.Encoding.{byte_list_bytes, IsCount, IsRefusal, IsMinimal, OnlyTooLong}
 use Rattle.wasm_codec.specs.formats.Numbers.{EncodesU32}
 use Rattle.wasm_codec.specs.Leb128.{unsigned_leb128}
 use Rattle.wasm_types.specs.formats.Types.{val_type}
 use Rattle.wasm_lists.specs.Iterators.{AppendsItems}
 use Rattle.wasm_codec.specs.formats.Combinators.{items}
 use Rattle.wasm_instructions.specs.Appending.{CountedCall}
-use Rattle.wasm_instructions.specs.formats.Instructions.{Instruction, Instructions, ShortestInstructions, instruction, instructions_bytes}
-use Rattle.wasm_instructions.proofs.InstructionFormatLaws.{are_shortest}
+use Rattle.wasm_instructions.specs.formats.Instructions.{Instruction, Instructions, MinimalInstructions, instruction, instructions_bytes}
+use Rattle.wasm_instructions.proofs.InstructionFormatLaws.{are_minimal}
 use Rattle.wasm_code.specs.declared.code.CodeBody.{CodeBody}
 use Rattle.wasm_code.specs.CodeCounts.{CountedBody}
 use Rattle.wasm_code.specs.formats.CodeBodies.{local_group, code_body, code_section_body}
@@ -34,7 +34,7 @@ use Rattle.wasm_lists.proofs.EncodedListLaws.{stands_none, stands_one_more, gain
 -- ---- functions
 
 -- a function of locals alone
-pub locals_stand : {S : Type 0} (gives : S → Option (ℕ × ValType) → S → Type 0) (Can : ℕ × ValType → Type 0) (locals : S) (old new : List ℕ) → old ≡ [] → AppendsItems local_group.bytes Can (λ (p : ℕ × ValType). IsShortest EncodesU32 unsigned_leb128 p.0 × IsShortest val_type.Encodes val_type.bytes p.1) gives locals old new → OfItems gives locals (λ groups. FunctionStandsFor new (body_of groups []))
+pub locals_stand : {S : Type 0} (gives : S → Option (ℕ × ValType) → S → Type 0) (Can : ℕ × ValType → Type 0) (locals : S) (old new : List ℕ) → old ≡ [] → AppendsItems local_group.bytes Can (λ (p : ℕ × ValType). IsMinimal EncodesU32 unsigned_leb128 p.0 × IsMinimal val_type.Encodes val_type.bytes p.1) gives locals old new → OfItems gives locals (λ groups. FunctionStandsFor new (body_of groups []))
 locals_stand gives Can locals old new none given =
     (given.0, given.1, record { bytes = given.2 ∙ ap (λ (t : List ℕ). t ++ (items local_group).bytes given.0) none ∙ sym (append-nil ((items local_group).bytes given.0)); locals = given.3.0; calls = tt; locals_in_range = locals_in_range given.0 given.4; calls_in_range = tt })
 
@@ -65,9 +65,9 @@ appends_calls was old new more Refused r same is encoded unchanged refused =
 -- some bytes more
 goes_on_with_bytes : {T E : Type 0} (r : Result T E) (old new more : List ℕ) → OnOk r (new ≡ old ++ more) → OnOk r (GoesOnWithBytes old more new)
 goes_on_with_bytes (Ok x) old new more is = record { bytes = is; stands = stands } where
-  stands : (calls : List Instruction) → ShortestInstructions more calls → (body : CodeBody) → FunctionStandsFor old body → FunctionStandsFor new (followed body calls)
+  stands : (calls : List Instruction) → MinimalInstructions more calls → (body : CodeBody) → FunctionStandsFor old body → FunctionStandsFor new (followed body calls)
   stands calls minimal body s =
-      let both = (are_shortest more calls).0 minimal in
+      let both = (are_minimal more calls).0 minimal in
       function_more old new calls body (is ∙ ap (λ (t : List ℕ). old ++ t) both.1) (subst (λ (t : List ℕ). Instructions t calls) both.1 both.0) s
 goes_on_with_bytes (Err e) old new more is = tt
 
@@ -98,7 +98,7 @@ gains_function : {T E : Type 0} (r : Result T E) (old new : EncodedItems) (funct
 gains_function (Ok x) old new function count bytes few = record { count = count; bytes = bytes; stands = λ before body s f. function_stands old new function before body count bytes few s f }
 gains_function (Err e) old new function count bytes few = tt
 
-gains_bodies : {T E : Type 0} (r : Result T E) (old new : EncodedItems) (more : List CodeBody) → OnOk r (new.count ≡ old.count + length more) → OnOk r (new.bytes ≡ old.bytes ++ flat_map code_body.bytes more) → OnOk r (All CountedBody more) → OnOk r (All (IsShortest code_body.Encodes code_body.bytes) more) → OnOk r (GainsBodies old more new)
+gains_bodies : {T E : Type 0} (r : Result T E) (old new : EncodedItems) (more : List CodeBody) → OnOk r (new.count ≡ old.count + length more) → OnOk r (new.bytes ≡ old.bytes ++ flat_map code_body.bytes more) → OnOk r (All CountedBody more) → OnOk r (All (IsMinimal code_body.Encodes code_body.bytes) more) → OnOk r (GainsBodies old more new)
 gains_bodies (Ok x) old new more count bytes can written = gains_each code_body CountedBody old new more count bytes can (all_in_range code_body Lawful-code_body more written)
 gains_bodies (Err e) old new more count bytes can written = tt
 
@@ -112,7 +112,7 @@ adds_function was old new function r same count bytes few unchanged refused =
     })
 
 pub adds_bodies : (was old new : EncodedItems) (more : List CodeBody) (r : Result (Unit {0}) EncodeError) → was ≡ old → OnOk r (new.count ≡ was.count + length more) → OnOk r (new.bytes ≡ was.bytes ++ flat_map code_body.bytes more) → OnOk r (All CountedBody more)
-    → OnOk r (All (IsShortest code_body.Encodes code_body.bytes) more) → OnErr r (new ≡ was) → IfErr r (IsRefusalOfEach CountedBody OnlyTooLong was more) → (2 ^ 32 ≤ was.count + length more → IsErrOf r TooLong) → AddsAll GainsBodies UncountedBody old more new r
+    → OnOk r (All (IsMinimal code_body.Encodes code_body.bytes) more) → OnErr r (new ≡ was) → IfErr r (IsRefusalOfEach CountedBody OnlyTooLong was more) → (2 ^ 32 ≤ was.count + length more → IsErrOf r TooLong) → AddsAll GainsBodies UncountedBody old more new r
 adds_bodies was old new more r same count bytes can written unchanged refused too_many =
     subst (λ (list : EncodedItems). AddsAll GainsBodies UncountedBody list more new r) same (record {
       gains = gains_bodies r was new more count bytes can written;
@@ -135,14 +135,14 @@ unfolding code_section_body
 bodies_in_range section bodies few s = values_in_range code_body CountedBody section bodies few s
 
 body_encodes : (section : EncodedItems) (bodies : List CodeBody) → IsCount section.count → StandsForBodies section bodies → code_section_body.Encodes (body_bytes section) bodies
-body_encodes section bodies few s = rw (section_is_body section bodies s) (Lawful-code-section-body.shortest.encodes bodies (bodies_in_range section bodies few s))
+body_encodes section bodies few s = rw (section_is_body section bodies s) (Lawful-code-section-body.minimal.encodes bodies (bodies_in_range section bodies few s))
 
 pub section_encodes : (was section : EncodedItems) (old new : List ℕ) (r : Result (Unit {0}) EncodeError) → was ≡ section → IsCount was.count → OnOk r (new ≡ old ++ byte_list_bytes (body_bytes was)) → OnOk r (CountedSection was)
     → IfErr r (IsRefusal CountedSection OnlyTooLong was) → OnErr r (new ≡ old) → EncodesSection code_section_body (StandsForBodies section) 10 code section old new r
 unfolding code_section_body
 section_encodes was section old new r same few ok can refused err =
     subst (λ (list : EncodedItems). EncodesSection code_section_body (StandsForBodies list) 10 code list old new r) same
-    (encodes_section code_section_body (StandsForBodies was) 10 code (is_body_of code_kind) was (section_is_body was) (λ bodies s. body_encodes was bodies few s) Lawful-code-section-body.shortest.least old new r ok can refused err)
+    (encodes_section code_section_body (StandsForBodies was) 10 code (is_body_of code_kind) was (section_is_body was) (λ bodies s. body_encodes was bodies few s) Lawful-code-section-body.minimal.least old new r ok can refused err)
 
 pub is_decoded : {T E : Type 0} (r : Result T E) (section : EncodedItems) (bodies : List CodeBody) → IsCount section.count → OnOk r (CountedSection section) → StandsForBodies section bodies → OnOk r (IsTypedSection (typed_section_of (code_section_id, code_bodies bodies)))
 is_decoded (Ok x) section bodies few counted s = record {

@@ -12,7 +12,7 @@ use Rattle.wasm_types.specs.declared.types.composite.StructType.{StructType}
 use Rattle.wasm_types.specs.declared.types.recursive.SubType.{SubType}
 use Rattle.wasm_types.specs.declared.types.recursive.TypeEntry.{TypeEntry}
 use Rattle.wasm_types.specs.declared.types.recursive.TypeEntry.TheVariants as entries
-use Rattle.wasm_codec.specs.Encoding.{IsShortest, CanEncodeList}
+use Rattle.wasm_codec.specs.Encoding.{IsMinimal, CanEncodeList}
 use Rattle.wasm_codec.specs.Lists.{items_bytes}
 use Rattle.wasm_types.specs.formats.Types.{result_type, field_type, inner_type, sub_type, recursive_type, val_type}
 use Rattle.wasm_types.specs.TypeCounts.{CountedSub, CountedEntry}
@@ -22,13 +22,13 @@ use Rattle.wasm_encoder.proofs.TypeSectionLaws.{gains, gains_final, final_in_ran
 
 -- ---- what was written of the items is in range
 
-pub struct_in_range : (fields : List FieldType) → CanEncodeList (λ x. Unit {0}) fields → All (IsShortest field_type.Encodes field_type.bytes) fields → recursive_type.InRange (struct_entry fields)
+pub struct_in_range : (fields : List FieldType) → CanEncodeList (λ x. Unit {0}) fields → All (IsMinimal field_type.Encodes field_type.bytes) fields → recursive_type.InRange (struct_entry fields)
 struct_in_range fields can h =
     let ty : StructType = record { fields = fields } in
     let written : Result (Unit {0}) (Unit {0}) = Ok tt in
     final_in_range (inner.Struct ty) (in_range_of inner_type Lawful-inner-type (inner.Struct ty) (struct_ok written ty can h))
 
-pub group_in_range : (types : List SubType) → CanEncodeList CountedSub types → All (IsShortest sub_type.Encodes sub_type.bytes) types → recursive_type.InRange (entries.Rec types)
+pub group_in_range : (types : List SubType) → CanEncodeList CountedSub types → All (IsMinimal sub_type.Encodes sub_type.bytes) types → recursive_type.InRange (entries.Rec types)
 group_in_range types can h = in_range_of recursive_type Lawful-recursive-type (entries.Rec types) (group_written types can h)
 
 -- ---- one entry more of what iterators give
@@ -41,20 +41,20 @@ gains_items gives items (Ok x) old new entry_of encoding Can same counted fits c
     (h.0, h.1, gains old new (entry_of h.0) count (rw (same h.0) h.2.0) (counted h.0 h.2.1) (fits h.0 h.2.1))
 
 pub gains_struct : {S T E : Type 0} (gives : S → Option FieldType → S → Type 0) (fields : S) (r : Result T E) (now old new : EncodedItems) → now ≡ old → OnOk r (new.count ≡ now.count + 1)
-    → OnOk r (OfItems gives fields (λ xs. (new.bytes ≡ now.bytes ++ 0x5f ∷ items_bytes field_type.bytes xs) × (CanEncodeList (λ x. Unit {0}) xs × All (IsShortest field_type.Encodes field_type.bytes) xs))) → OnOk r (OfItems gives fields (λ xs. Gains old (struct_entry xs) new))
+    → OnOk r (OfItems gives fields (λ xs. (new.bytes ≡ now.bytes ++ 0x5f ∷ items_bytes field_type.bytes xs) × (CanEncodeList (λ x. Unit {0}) xs × All (IsMinimal field_type.Encodes field_type.bytes) xs))) → OnOk r (OfItems gives fields (λ xs. Gains old (struct_entry xs) new))
 unfolding inner_type
 gains_struct gives fields r now old new is count h = subst (λ (e : EncodedItems). OnOk r (OfItems gives fields (λ xs. Gains e (struct_entry xs) new))) is
-    (gains_items gives fields r now new struct_entry (λ xs. 0x5f ∷ items_bytes field_type.bytes xs) (λ xs. CanEncodeList (λ x. Unit {0}) xs × All (IsShortest field_type.Encodes field_type.bytes) xs) (λ xs. final_is (inner.Struct (record { fields = xs }))) (λ xs can. (omega arith, can.0.0)) (λ xs can. struct_in_range xs can.0 can.1) count h)
+    (gains_items gives fields r now new struct_entry (λ xs. 0x5f ∷ items_bytes field_type.bytes xs) (λ xs. CanEncodeList (λ x. Unit {0}) xs × All (IsMinimal field_type.Encodes field_type.bytes) xs) (λ xs. final_is (inner.Struct (record { fields = xs }))) (λ xs can. (omega arith, can.0.0)) (λ xs can. struct_in_range xs can.0 can.1) count h)
 
 pub gains_group : {S T E : Type 0} (gives : S → Option SubType → S → Type 0) (types : S) (r : Result T E) (now old new : EncodedItems) → now ≡ old → OnOk r (new.count ≡ now.count + 1)
-    → OnOk r (OfItems gives types (λ xs. (new.bytes ≡ now.bytes ++ 0x4e ∷ items_bytes sub_type.bytes xs) × (CanEncodeList CountedSub xs × All (IsShortest sub_type.Encodes sub_type.bytes) xs))) → OnOk r (OfItems gives types (λ xs. Gains old (entries.Rec xs) new))
+    → OnOk r (OfItems gives types (λ xs. (new.bytes ≡ now.bytes ++ 0x4e ∷ items_bytes sub_type.bytes xs) × (CanEncodeList CountedSub xs × All (IsMinimal sub_type.Encodes sub_type.bytes) xs))) → OnOk r (OfItems gives types (λ xs. Gains old (entries.Rec xs) new))
 unfolding recursive_type
 gains_group gives types r now old new is count h = subst (λ (e : EncodedItems). OnOk r (OfItems gives types (λ xs. Gains e (entries.Rec xs) new))) is
-    (gains_items gives types r now new entries.Rec (λ xs. 0x4e ∷ items_bytes sub_type.bytes xs) (λ xs. CanEncodeList CountedSub xs × All (IsShortest sub_type.Encodes sub_type.bytes) xs) (λ xs. refl) (λ xs can. can.0) (λ xs can. group_in_range xs can.0 can.1) count h)
+    (gains_items gives types r now new entries.Rec (λ xs. 0x4e ∷ items_bytes sub_type.bytes xs) (λ xs. CanEncodeList CountedSub xs × All (IsMinimal sub_type.Encodes sub_type.bytes) xs) (λ xs. refl) (λ xs can. can.0) (λ xs can. group_in_range xs can.0 can.1) count h)
 
 function_gained : {P R T E : Type 0} (gives_params : P → Option ValType → P → Type 0) (gives_results : R → Option ValType → R → Type 0) (params : P) (results : R) (r : Result T E) (old new : EncodedItems) → OnOk r (new.count ≡ old.count + 1)
     → OnOk r (OfItems gives_params params (λ ps. OfItems gives_results results (λ rs. (new.bytes ≡ old.bytes ++ 0x60 ∷ (items_bytes val_type.bytes ps ++ items_bytes val_type.bytes rs))
-    × ((CanEncodeList (λ x. Unit {0}) ps × All (IsShortest val_type.Encodes val_type.bytes) ps) × (CanEncodeList (λ x. Unit {0}) rs × All (IsShortest val_type.Encodes val_type.bytes) rs)))))
+    × ((CanEncodeList (λ x. Unit {0}) ps × All (IsMinimal val_type.Encodes val_type.bytes) ps) × (CanEncodeList (λ x. Unit {0}) rs × All (IsMinimal val_type.Encodes val_type.bytes) rs)))))
     → OnOk r (OfBoth gives_params gives_results params results (λ ty. Gains old (final_entry (inner.Func ty)) new))
 unfolding inner_type result_type
 function_gained gives_params gives_results params results (Err e) old new count h = tt
@@ -66,7 +66,7 @@ function_gained gives_params gives_results params results (Ok x) old new count (
 
 pub gains_function : {P R T E : Type 0} (gives_params : P → Option ValType → P → Type 0) (gives_results : R → Option ValType → R → Type 0) (params : P) (results : R) (r : Result T E) (now old new : EncodedItems) → now ≡ old → OnOk r (new.count ≡ now.count + 1)
     → OnOk r (OfItems gives_params params (λ ps. OfItems gives_results results (λ rs. (new.bytes ≡ now.bytes ++ 0x60 ∷ (items_bytes val_type.bytes ps ++ items_bytes val_type.bytes rs))
-    × ((CanEncodeList (λ x. Unit {0}) ps × All (IsShortest val_type.Encodes val_type.bytes) ps) × (CanEncodeList (λ x. Unit {0}) rs × All (IsShortest val_type.Encodes val_type.bytes) rs)))))
+    × ((CanEncodeList (λ x. Unit {0}) ps × All (IsMinimal val_type.Encodes val_type.bytes) ps) × (CanEncodeList (λ x. Unit {0}) rs × All (IsMinimal val_type.Encodes val_type.bytes) rs)))))
     → OnOk r (OfBoth gives_params gives_results params results (λ ty. Gains old (final_entry (inner.Func ty)) new))
 gains_function gives_params gives_results params results r now old new is count h =
     subst (λ (e : EncodedItems). OnOk r (OfBoth gives_params gives_results params results (λ ty. Gains e (final_entry (inner.Func ty)) new))) is (function_gained gives_params gives_results params results r now new count h)

@@ -8,7 +8,7 @@ use Rattle.wasm_types.specs.declared.types.value.ValType.{ValType}
 use Rattle.wasm_types.specs.declared.types.value.ValType.TheVariants.{I32}
 use Rattle.wasm_types.specs.formats.Types.{val_type}
 use Rattle.wasm_codec.specs.declared.encode.EncodeError.{EncodeError}
-use Rattle.wasm_codec.specs.Encoding.{CanEncodeList, IsListRefusal, IsShortest}
+use Rattle.wasm_codec.specs.Encoding.{CanEncodeList, IsListRefusal, IsMinimal}
 use Rattle.wasm_codec.specs.formats.Combinators.{items}
 use Rattle.wasm_codec.specs.formats.Numbers.{EncodesU32}
 use Rattle.wasm_codec.specs.Leb128.{unsigned_leb128}
@@ -91,7 +91,7 @@ no_more (g ∷ groups) h =
 -- ---- the function that is made
 
 pub locals_made : (none function : List ℕ) (groups kept : List (ℕ × ValType)) (types : List ValType) → none ≡ [] → groups ≡ kept → AreGroups kept types → function ≡ none ++ items_bytes local_group.bytes groups
-    → CanEncodeList (λ (p : ℕ × ValType). Unit {0} × Unit {0}) groups → All (λ (p : ℕ × ValType). IsShortest EncodesU32 unsigned_leb128 p.0 × IsShortest val_type.Encodes val_type.bytes p.1) groups → MakesLocals types (Ok function)
+    → CanEncodeList (λ (p : ℕ × ValType). Unit {0} × Unit {0}) groups → All (λ (p : ℕ × ValType). IsMinimal EncodesU32 unsigned_leb128 p.0 × IsMinimal val_type.Encodes val_type.bytes p.1) groups → MakesLocals types (Ok function)
 locals_made none function groups kept types empty same are is can written = record {
   made = (
     groups,

@@ -10,9 +10,9 @@ use Rattle.wasm_code.proofs.ModuleLaws.{goes_on}
 use Rattle.wasm_encoder.specs.BuiltModules.{AppendsSection}
 use Rattle.wasm_sections.specs.formats.ModuleSectionParts.{ModuleSectionParts}
 use Rattle.wasm_sections.specs.SectionBytes.{IsSectionAfter}
-use Rattle.wasm_sections.specs.formats.ModuleSections.{ShortestWholeModule, module_section}
+use Rattle.wasm_sections.specs.formats.ModuleSections.{MinimalWholeModule, module_section}
 
-pub no_sections : (m : List ℕ) → m ≡ header → ShortestWholeModule m []
+pub no_sections : (m : List ℕ) → m ≡ header → MinimalWholeModule m []
 no_sections m is = ([], is ∙ sym (append-nil header), refl)
 
 -- encodings of values, and then one of one value more
@@ -21,8 +21,8 @@ one_more G bytes more [] added none g = (more, [], ap (λ (t : List ℕ). t ++ m
 one_more G bytes more (v ∷ values) added j g =
     (j.0, j.1 ++ more, ap (λ (t : List ℕ). t ++ more) j.2 ∙ append_assoc j.0 j.1 more, j.3, one_more G j.1 more values added j.4 g)
 
-section_added : {T E : Type 0} (r : Result T E) (old new bytes : List ℕ) (id : ℕ) (sections : List ModuleSectionParts) (added : ModuleSectionParts) → OnOk r (new ≡ old ++ id ∷ bytes) → ShortestWholeModule old sections → IsSectionAfter id bytes added
-    → OnOk r (ShortestWholeModule new (sections ++ added ∷ []))
+section_added : {T E : Type 0} (r : Result T E) (old new bytes : List ℕ) (id : ℕ) (sections : List ModuleSectionParts) (added : ModuleSectionParts) → OnOk r (new ≡ old ++ id ∷ bytes) → MinimalWholeModule old sections → IsSectionAfter id bytes added
+    → OnOk r (MinimalWholeModule new (sections ++ added ∷ []))
 section_added (Ok x) old new bytes id sections added is j more =
     (j.0 ++ id ∷ bytes, is ∙ ap (λ (t : List ℕ). t ++ id ∷ bytes) j.1 ∙ append_assoc header j.0 (id ∷ bytes), one_more (minimal_only module_section).Encodes j.0 (id ∷ bytes) sections added j.2 more)
 section_added (Err e) old new bytes id sections added is j more = tt
@@ -36,6 +36,6 @@ appends_section was old new encoding byte id Can Written Refused r same is ok ca
       goes_on = λ sections body is_module is_body. goes_on r was new encoding body sections id appended is_module is_body;
       first = λ body is_header is_body. goes_on r was new encoding body [] id appended is_header is_body;
       whole = λ sections added is_module is_section. section_added r was new encoding id sections added appended is_module is_section;
-      encodes = Lawful-raw-module.shortest.encodes;
-      shortest = λ sections bytes g. Lawful-raw-module.shortest.least bytes sections g;
+      encodes = Lawful-raw-module.minimal.encodes;
+      minimal = λ sections bytes g. Lawful-raw-module.minimal.least bytes sections g;
     })

@@ -1,12 +1,12 @@
 -- Functions and code sections that are built (WebAssembly Core 3.0, Code Section).
-use Rattle.std.specs.Prelude.{◌≡◌, ℕ, ◌+◌, ◌^◌, ◌<◌, ◌≤◌, ◌⊎◌, List, [], ◌∷◌, ◌++◌, length, replicate, Option, Result, IfOk, IfErr, IsErrOf}
+use Rattle.std.specs.Prelude.{◌≡◌, ℕ, ◌+◌, ◌^◌, ◌<◌, ◌≤◌, ◌⊎◌, List, [], ◌∷◌, ◌++◌, length, replicate, Option, Result, Ok, Err, IfOk, IfErr, OnErr, IsErrOf}
 use Rattle.std.specs.List.{AllByRecursion, Any, flat_map}
 use Rattle.wasm_types.specs.declared.types.value.ValType.{ValType}
 use Rattle.wasm_codec.specs.declared.encode.EncodeError.{EncodeError}
 use Rattle.wasm_codec.specs.declared.encode.EncodeError.TheVariants.{TooLong}
 use Rattle.wasm_codec.specs.Encoding.{byte_list_bytes, IsCount}
 use Rattle.wasm_instructions.specs.Appending.{CountedCall}
-use Rattle.wasm_instructions.specs.formats.Instructions.{Instruction, ShortestInstructions, instruction, instructions_bytes}
+use Rattle.wasm_instructions.specs.formats.Instructions.{Instruction, MinimalInstructions, instruction, instructions_bytes}
 use Rattle.wasm_instructions.specs.declared.table.call.Operands.{Operands}
 use Rattle.wasm_code.specs.declared.code.CodeBody.{CodeBody}
 use Rattle.wasm_code.specs.CodeCounts.{CountedBody, func_bytes}
@@ -43,6 +43,18 @@ pub record MakesFunction {S : Type 0} (gives : S → Option (ℕ × ValType) →
   pub refused : IfErr result (IsMemoryOrTooLong (IsUncounted len))
   -- It fails with `TooLong` if there are too many groups.
   pub too_many : 2 ^ 32 ≤ len → IsErrOf result TooLong
+
+-- The function, if the call succeeds.
+abbrev pub made : List ℕ → Result (Unit {0}) EncodeError → Result (List ℕ) EncodeError
+made function (Ok x) = Ok function
+made function (Err e) = Err e
+
+-- A call that removes the instructions of a function; an iterator with this length gives its groups of locals.
+pub record Restarts {S : Type 0} (gives : S → Option (ℕ × ValType) → S → Type 0) (locals : S) (len : ℕ) (old new : List ℕ) (result : Result (Unit {0}) EncodeError) : Type 0 where
+  -- The function is then one that was made of these locals, or it fails as the call does that makes one.
+  pub makes : MakesFunction gives locals len (made new result)
+  -- On error the function is unchanged.
+  pub same : OnErr result (new ≡ old)
 
 -- The types of the locals in these groups, one by one.
 abbrev pub spread : List (ℕ × ValType) → List ValType
@@ -83,7 +95,7 @@ pub record GoesOnWith (old : List ℕ) (more : List Instruction) (new : List ℕ
 -- goes on with these.
 pub record GoesOnWithBytes (old added new : List ℕ) : Type 0 where
   pub bytes : new ≡ old ++ added
-  pub stands : (more : List Instruction) → ShortestInstructions added more → (body : CodeBody) → FunctionStandsFor old body → FunctionStandsFor new (followed body more)
+  pub stands : (more : List Instruction) → MinimalInstructions added more → (body : CodeBody) → FunctionStandsFor old body → FunctionStandsFor new (followed body more)
 
 -- The section stands for these bodies: it has their number and encodings, and each can be written and is in range.
 abbrev pub StandsForBodies : EncodedItems → List CodeBody → Type 0

@@ -26,7 +26,7 @@ pub use Rattle.wasm_code.specs.CodeCounts
 pub use Rattle.wasm_code.specs.DecodedPrefixes
 pub use Rattle.wasm_code.specs.formats.Modules as ModuleFormats
 pub use Rattle.wasm_code.specs.formats.Sections
-pub use Rattle.wasm_code.specs.Judging
+pub use Rattle.wasm_code.specs.Longer
 pub use Rattle.wasm_code.specs.Modules
 pub use Rattle.wasm_code.specs.Reasons
 pub use Rattle.wasm_types.specs.PrefixFree as PrefixFreeTypes
@@ -52,7 +52,7 @@ pub use Rattle.wasm_sections.specs.WrittenSections
 pub use Rattle.wasm_sections.specs.ClosedEntries
 pub use Rattle.wasm_sections.specs.Prefixes
 pub use Rattle.wasm_sections.specs.SectionContents
-pub use Rattle.wasm_modules.specs.Judging as JudgedModules
+pub use Rattle.wasm_modules.specs.Longer as CheckedModules
 pub use Rattle.wasm_modules.specs.ModuleOrder
 pub use Rattle.wasm_modules.specs.IndexSpaces
 pub use Rattle.wasm_modules.specs.MappedIndices
@@ -91,7 +91,6 @@ pub mod BuiltModules
 pub mod EncodedLists
 pub mod Errors
 pub mod CodeSections
-pub mod RawSections
 pub mod SectionIds
 pub mod TypeSections
 pub mod WrittenModules

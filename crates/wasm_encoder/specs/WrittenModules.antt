@@ -4,7 +4,7 @@ use Rattle.std.specs.Io.KnownBytes.{Appends, Keeps}
 use Rattle.wasm_codec.specs.Streams.{AppendsPrefix}
 use Rattle.wasm_codec.specs.declared.encode.EncodeError.{EncodeError}
 use Rattle.wasm_sections.specs.formats.ModuleSectionParts.{ModuleSectionParts}
-use Rattle.wasm_sections.specs.formats.ModuleSections.{ShortestWholeModule}
+use Rattle.wasm_sections.specs.formats.ModuleSections.{MinimalWholeModule}
 use Rattle.wasm_sections.specs.SectionBytes.{IsSectionAfter}
 use Rattle.wasm_encoder.specs.BuiltModules.{AppendsSection}
 use Rattle.wasm_encoder.specs.declared.module_writer.WriteError.{WriteError}
@@ -14,7 +14,7 @@ use Rattle.wasm_encoder.specs.declared.module_writer.WriteError.TheVariants as e
 pub record IsWrittenModule (start new : Option (List ℕ)) (sections : List ModuleSectionParts) : Type 0 where
   pub bytes : List ℕ
   pub appended : Appends start new bytes
-  pub minimal : ShortestWholeModule bytes sections
+  pub minimal : MinimalWholeModule bytes sections
 
 -- If the section has no encoding or memory ran out, the property holds of the error.
 abbrev pub IfEncode : {T : Type 0} → Result T WriteError → (EncodeError → Type 0) → Type 0

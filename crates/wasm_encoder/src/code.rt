@@ -1,5 +1,5 @@
 //! Functions and the code section (Core 3.0, Code Section).
-ghost use Rattle.std.specs.Prelude.{◌≡◌, ◌↔◌, ◌⊎◌, ◌+◌, ◌∷◌, List, [], IsTrue, IsFalse, ◌++◌, OnOk, OnErr, IfOk, IfErr, length};
+ghost use Rattle.std.specs.Prelude.{◌≡◌, ◌↔◌, ◌⊎◌, ◌+◌, ◌≤◌, ◌∷◌, List, [], IsTrue, IsFalse, ◌++◌, OnOk, OnErr, IfOk, IfErr, drop, length};
 ghost use Rattle.std.specs.Borrow.{Lends, follows, sem};
 ghost use Rattle.std.specs.Iterator.{size};
 ghost use Rattle.wasm_codec.specs.declared.encode.EncodeError.TheVariants.{Memory};
@@ -13,7 +13,7 @@ ghost use Rattle.wasm_sections.specs.formats.ModuleSectionParts.{code};
 ghost use Rattle.wasm_lists.specs.Iterators.{OfIterator};
 ghost use Rattle.wasm_encoder.specs.EncodedLists.{Adds, AddsAll, EncodesSection, EncodedItems, CountedSection, IsFull, IsMemoryOrTooLong, IsUncounted, Makes, body_bytes};
 ghost use Rattle.wasm_encoder.specs.CodeSections.{bytes_row};
-ghost use Rattle.wasm_encoder.specs.CodeSections.{AreGroups, GainsBodies, GainsFunction, GoesOnWith, GoesOnWithBytes, HoldsBodies, IsCodeSection, MakesFunction, MakesLocals, StandsForBodies, UncountedBody};
+ghost use Rattle.wasm_encoder.specs.CodeSections.{AreGroups, GainsBodies, GainsFunction, GoesOnWith, GoesOnWithBytes, HoldsBodies, IsCodeSection, MakesFunction, MakesLocals, Restarts, StandsForBodies, UncountedBody};
 
 use crate::encoded_section::EncodedSection;
 use crate::wasm_core::{Section, SectionId};
@@ -76,6 +76,49 @@ impl Function {
         let mut bytes = Vec::new(alloc);
         append_items(locals.into_iter(), &mut bytes)?;
         Ok(Function { bytes })
+    }
+
+    /// Removes the instructions, and gives the function these locals. It keeps its memory, so that one `Function` can
+    /// build all bodies of a section. `locals` are groups as for [`Function::new`].
+    ///
+    /// Fails with `TooLong` if there are more than 4,294,967,295 groups, before it asks for one, and with `Memory` if
+    /// the function can't grow.
+    ///
+    /// # Examples
+    ///
+    /// ```
+    /// # use wasm_encoder::{CodeSection, Encode, Function, ValType};
+    /// let mut code = CodeSection::new(rt.alloc());
+    /// let mut function = Function::new(rt.alloc(), [])?;
+    /// function.instructions().end()?;
+    /// code.function(&function)?;
+    /// function.restart([(2, ValType::F64)])?;
+    /// function.instructions().nop()?.end()?;
+    /// code.function(&function)?;
+    /// let mut bytes = Vec::new(rt.alloc());
+    /// code.encode(&mut bytes)?;
+    /// assert_eq!(rt; bytes.as_slice(), b"\x0a\x02\x02\x00\x0b\x05\x01\x02\x7c\x01\x0b".as_slice());
+    /// ```
+    pub fn restart<L: IntoIterator<Item = (u32, ValType)>>(
+        &mut self,
+        locals: L,
+    ) -> Result<(), EncodeError>
+    where
+        L::IntoIter: ExactSizeIterator,
+        requires { (groups : L.IntoIter) → L.into_iter_gives locals groups → L.IntoIter.can_next groups }
+        ensures restarts { OfIterator L.into_iter_gives locals (λ groups. Restarts L.IntoIter.next_gives groups (size (L.IntoIter.remaining groups)) self.old self.new result) }
+    {
+        let before = self.bytes.len();
+        match append_items(locals.into_iter(), &mut self.bytes) {
+            Ok(()) => {
+                remove_first(&mut self.bytes, before);
+                Ok(())
+            }
+            Err(error) => {
+                self.bytes.truncate(before);
+                Err(error)
+            }
+        }
     }
 
     /// Returns a function without instructions, whose locals have these types. Equal types that follow each other are a
@@ -173,6 +216,16 @@ impl Function {
         let bytes = Vec::from_slice(*self.bytes.allocator(), self.bytes.as_slice())?;
         Ok(Function { bytes })
     }
+}
+
+/// Removes the first `count` bytes.
+fn remove_first(bytes: &mut Vec<u8>, count: usize)
+    requires { count ≤ length bytes.old.items }
+    ensures { bytes.new.items ≡ drop count bytes.old.items }
+{
+    let len = bytes.len();
+    bytes.copy_within(count..len, 0);
+    bytes.truncate(len - count);
 }
 
 /// Appends bytes. Fails with `Memory` if it can't allocate, and appends nothing then.

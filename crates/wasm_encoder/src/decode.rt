@@ -5,19 +5,19 @@
 //! and `WholeModule` for one with every section decoded. Implement [`Decode`] for a type of your own.
 ghost use Rattle.std.specs.Prelude.{List, true, false, IfErr, length, ◌≤◌, IfOk};
 ghost use Rattle.wasm_codec.specs.Outcomes.{IfMalformed, LiesIn, as_read, NeedsNoMemory, EncodesSome};
-ghost use Rattle.wasm_codec.specs.Decoding.{IsMinimal, ChecksAll, RewritesInPlace};
+ghost use Rattle.wasm_codec.specs.Decoding.{TakesMinimal, ChecksAll, RewritesInPlace};
 ghost use Rattle.wasm_codec.specs.Lawful.{IsLawfulBody};
 ghost use Rattle.wasm_codec.specs.formats.Bodies.{to_end};
 ghost use Rattle.wasm_codec.specs.formats.Combinators.{minimal_if, minimal_only};
 ghost use Rattle.wasm_codec.specs.Lists.{CountsItems};
 ghost use Rattle.wasm_types.specs.declared.types.recursive.TypeEntry.{TypeEntry};
-ghost use Rattle.wasm_types.specs.formats.Types.{recursive_type, type_body, IsTypeBodyPrefix, ShortestTypeBody, IsShortestTypeBodyPrefix};
-ghost use Rattle.wasm_instructions.specs.formats.Instructions.{Instruction, Instructions as InstructionList, ShortestInstructions, instruction};
+ghost use Rattle.wasm_types.specs.formats.Types.{recursive_type, type_body, IsTypeBodyPrefix, MinimalTypeBody, IsMinimalTypeBodyPrefix};
+ghost use Rattle.wasm_instructions.specs.formats.Instructions.{Instruction, Instructions as InstructionList, MinimalInstructions, instruction};
 ghost use Rattle.wasm_code.specs.declared.code.CodeBody.{CodeBody};
-ghost use Rattle.wasm_code.specs.formats.CodeBodies.{code_body, code_section_body, IsCodeSectionBodyPrefix, ShortestCodeSectionBody, IsShortestCodeSectionBodyPrefix};
+ghost use Rattle.wasm_code.specs.formats.CodeBodies.{code_body, code_section_body, IsCodeSectionBodyPrefix, MinimalCodeSectionBody, IsMinimalCodeSectionBodyPrefix};
 ghost use Rattle.wasm_code.specs.formats.Sections.{SectionParts, all_parts_of};
-ghost use Rattle.wasm_code.specs.formats.Modules.{raw_module, raw_section, ShortestModule};
-ghost use Rattle.wasm_code.specs.Modules.{CountsSections, IsModulePrefix, IsShortestModulePrefix};
+ghost use Rattle.wasm_code.specs.formats.Modules.{raw_module, raw_section, MinimalModule};
+ghost use Rattle.wasm_code.specs.Modules.{CountsSections, IsModulePrefix, IsMinimalModulePrefix};
 ghost use Rattle.wasm_code.specs.DecodedPrefixes.{ArePrefixes};
 
 use crate::code::CodeSection;
@@ -60,11 +60,11 @@ impl<'a> Decode<'a> for Instructions {
 
     ghost format = { to_end instruction };
 
-    ghost Minimal = { ShortestInstructions };
+    ghost Minimal = { MinimalInstructions };
 
     ghost IsPrefix = { EncodesSome InstructionList };
 
-    ghost IsMinimalPrefix = { EncodesSome ShortestInstructions };
+    ghost IsMinimalPrefix = { EncodesSome MinimalInstructions };
 
     #[inline(always)]
     fn is_lawful() {}
@@ -99,11 +99,11 @@ impl<'a> Decode<'a> for TypeSection {
 
     ghost format = { type_body };
 
-    ghost Minimal = { ShortestTypeBody };
+    ghost Minimal = { MinimalTypeBody };
 
     ghost IsPrefix = { IsTypeBodyPrefix };
 
-    ghost IsMinimalPrefix = { IsShortestTypeBodyPrefix };
+    ghost IsMinimalPrefix = { IsMinimalTypeBodyPrefix };
 
     ghost Counts = { λ strict. CountsItems strict recursive_type };
 
@@ -140,11 +140,11 @@ impl<'a> Decode<'a> for CodeSection {
 
     ghost format = { code_section_body };
 
-    ghost Minimal = { ShortestCodeSectionBody };
+    ghost Minimal = { MinimalCodeSectionBody };
 
     ghost IsPrefix = { IsCodeSectionBodyPrefix };
 
-    ghost IsMinimalPrefix = { IsShortestCodeSectionBodyPrefix };
+    ghost IsMinimalPrefix = { IsMinimalCodeSectionBodyPrefix };
 
     ghost Counts = { λ strict. CountsItems strict code_body };
 
@@ -181,20 +181,20 @@ impl<'a> Decode<'a> for Module {
 
     ghost format = { raw_module };
 
-    ghost Minimal = { ShortestModule };
+    ghost Minimal = { MinimalModule };
 
     ghost IsPrefix = { IsModulePrefix };
 
-    ghost IsMinimalPrefix = { IsShortestModulePrefix };
+    ghost IsMinimalPrefix = { IsMinimalModulePrefix };
 
     ghost Counts = { λ strict. CountsSections (minimal_if strict raw_section) };
 
     #[inline(always)]
     fn is_lawful()
         ensures lawful { IsLawfulBody raw_module }
-        ensures minimal { IsMinimal raw_module ShortestModule }
+        ensures minimal { TakesMinimal raw_module MinimalModule }
         ensures prefixes { ArePrefixes raw_module.Encodes IsModulePrefix }
-        ensures minimal_prefixes { ArePrefixes ShortestModule IsShortestModulePrefix }
+        ensures minimal_prefixes { ArePrefixes MinimalModule IsMinimalModulePrefix }
     {}
 
     fn read_all(alloc: Global, bytes: &'a [u8]) -> Result<Vec<RawSection<'a>>, DecodeError> {
@@ -206,7 +206,7 @@ impl<'a> Decode<'a> for Module {
     }
 
     fn check_all(alloc: Global, bytes: &[u8]) -> Result<(), DecodeError>
-        ensures checks { ChecksAll ShortestModule IsShortestModulePrefix bytes.now (as_read result) }
+        ensures checks { ChecksAll MinimalModule IsMinimalModulePrefix bytes.now (as_read result) }
         ensures place { IfErr result (LiesIn (length bytes.now)) }
         ensures counts { IfMalformed result (CountsSections (minimal_only raw_section) bytes.now) }
     {

@@ -5,7 +5,7 @@
 //! `new`, `len`, `is_empty`, `push`, `entries` and `try_clone`, and a method named after what it adds, such as
 //! `export`.
 ghost use Rattle.std.specs.Prelude.{◌≡◌, ◌∷◌, OnOk, IfOk, IfErr};
-ghost use Rattle.wasm_codec.specs.Encoding.{byte_list_bytes, IsRefusal, IsShortest, OnlyTooLong};
+ghost use Rattle.wasm_codec.specs.Encoding.{byte_list_bytes, IsRefusal, IsMinimal, OnlyTooLong};
 ghost use Rattle.wasm_lists.specs.EncodedLists.{EncodedItems};
 ghost use Rattle.wasm_sections.specs.SectionBytes.{CountedCustom, IsSectionAfter};
 ghost use Rattle.wasm_sections.specs.formats.EntryParts.{custom_parts};
@@ -44,8 +44,9 @@ pub use wasm_externals::const_expr::ConstExpr;
 pub use wasm_externals::limits::{MemoryType, TableType};
 pub use wasm_externals::types::{EntityType, ExportKind, GlobalType, TagKind, TagType};
 pub use wasm_modules::modules::{
-    Judged, Judgement, WholeModule, check_whole_module, judge_in_place, judge_whole_module,
-    normalise_whole_module, read_whole_module, read_whole_module_strict, rewrite_whole_module,
+    CheckedInPlace, CheckedModule, WholeModule, check_whole_module, normalise_whole_module,
+    read_whole_module, read_whole_module_strict, rewrite_and_check_in_place,
+    rewrite_and_check_whole_module, rewrite_whole_module,
 };
 pub use wasm_modules::order::{ModuleError, check_order, find_order_error};
 pub use wasm_sections::contents::{Contents, read_contents, read_contents_strict};
@@ -125,7 +126,7 @@ fn encoded_custom<'a>(
 ) -> Result<EncodedSection<'a>, EncodeError>
     ensures ok { IfOk result (λ encoded. encoded ≡ 0 ∷ byte_list_bytes (custom_body.bytes (custom_parts section.now))) }
     ensures can { OnOk result (CountedCustom section.now) }
-    ensures shortest { OnOk result (IsShortest custom_body.Encodes custom_body.bytes (custom_parts section.now)) }
+    ensures minimal { OnOk result (IsMinimal custom_body.Encodes custom_body.bytes (custom_parts section.now)) }
     ensures whole { OnOk result (IsSectionAfter 0 (byte_list_bytes (custom_body.bytes (custom_parts section.now))) (custom (custom_parts section.now))) }
     ensures refused { IfErr result (IsRefusal CountedCustom OnlyTooLong section.now) }
 {

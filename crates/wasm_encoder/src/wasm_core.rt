@@ -2,7 +2,7 @@
 ghost use Rattle.std.specs.Prelude.{◌≡◌, ◌∷◌, ℕ, List, [], IfOk, IfErr, length};
 ghost use Rattle.wasm_codec.specs.Encoding.{IsRefusal};
 ghost use Rattle.wasm_code.specs.formats.Sections.{header};
-ghost use Rattle.wasm_sections.specs.formats.ModuleSections.{ShortestWholeModule};
+ghost use Rattle.wasm_sections.specs.formats.ModuleSections.{MinimalWholeModule};
 ghost use Rattle.wasm_encoder.specs.BuiltModules.{AppendsTo, AppendsSection, BuildsModule};
 ghost use Rattle.wasm_encoder.specs.WrittenModules.{EncodesInParts};
 ghost use Rattle.wasm_encoder.specs.EncodedLists.{Makes};
@@ -181,7 +181,7 @@ impl Module {
     pub fn new(alloc: Global) -> Result<Module, EncodeError>
         ensures ok { IfOk result (λ m. m ≡ header) }
         // The header is the minimal encoding of a module without sections.
-        ensures whole { IfOk result (λ m. ShortestWholeModule m []) }
+        ensures whole { IfOk result (λ m. MinimalWholeModule m []) }
         ensures err { IfErr result (λ e. e ≡ Memory) }
     {
         let bytes = Vec::from_slice(alloc, &Module::HEADER)?;

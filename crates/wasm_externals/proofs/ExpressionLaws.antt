@@ -11,7 +11,7 @@ use Rattle.wasm_codec.specs.declared.reader.cursor.Fault.{Fault}
 use Rattle.wasm_codec.specs.Outcomes.{IsLongestPrefix, IsMalformed}
 use Rattle.wasm_codec.specs.formats.Grammar.{IsBytes}
 use Rattle.wasm_codec.specs.Rewriter.{Rewriting, rewriting_after, Rewrites}
-use Rattle.wasm_codec.specs.Encoding.{IsShortest}
+use Rattle.wasm_codec.specs.Encoding.{IsMinimal}
 use Rattle.wasm_codec.proofs.Laws.{bind_some, some, some_is}
 use Rattle.wasm_codec.proofs.PlaceLists.{after_items, regroup_items, after_no_items}
 use Rattle.wasm_codec.proofs.FormatLaws.{read_in_range}
@@ -187,7 +187,7 @@ is_end op o is h =
     ap (λ (p : Opcode). call p o) is ∙ ap (λ (p : Operands). call (without_prefix 0x0b) p) none
 
 pub only_end : (depth : ℕ) (i : Instruction) → instruction.InRange i → nested depth i.op ≡ ends → i ≡ end_call
-only_end depth i fits e = is_end i.op i.operands (opcode_ends depth i.op.prefix i.op.number e) (encodes_call (instruction.bytes i) i (Lawful-instruction.shortest.encodes i fits))
+only_end depth i fits e = is_end i.op i.operands (opcode_ends depth i.op.prefix i.op.number e) (encodes_call (instruction.bytes i) i (Lawful-instruction.minimal.encodes i fits))
 
 pub expr_is_lawful : IsLawful expr
 unfolding expr
@@ -277,11 +277,11 @@ and_end : (calls : List Instruction) → AllByRecursion instruction.InRange call
 and_end [] fits = (end_fits, tt)
 and_end (call ∷ calls) fits = (fits.0, and_end calls fits.1)
 
-pub expr_written : (calls : List Instruction) → Instructions (instructions_bytes calls) calls → IsClosed calls → IsShortest expr.Encodes expr.bytes calls
+pub expr_written : (calls : List Instruction) → Instructions (instructions_bytes calls) calls → IsClosed calls → IsMinimal expr.Encodes expr.bytes calls
 unfolding expr
-expr_written calls encoded closed = written expr_is_lawful.shortest calls (and_end calls (calls_in_range calls encoded), closed)
+expr_written calls encoded closed = written expr_is_lawful.minimal calls (and_end calls (calls_in_range calls encoded), closed)
 
-pub in_expr : (calls : List Instruction) → IsShortest expr.Encodes expr.bytes calls → expr.InRange calls
+pub in_expr : (calls : List Instruction) → IsMinimal expr.Encodes expr.bytes calls → expr.InRange calls
 in_expr calls h = in_range_of expr expr_is_lawful calls h
 
 -- an instruction that opens and closes no block is closed

@@ -6,7 +6,7 @@ use Rattle.std.proofs.Math.Seq.{take-append_seam}
 use Rattle.wasm_codec.specs.formats.Combinators.{u32, u64}
 use Rattle.wasm_codec.specs.Lawful.{IsLawful}
 use Rattle.wasm_codec.specs.formats.Grammar.{TakesBytes}
-use Rattle.wasm_codec.specs.Encoding.{IsShortest}
+use Rattle.wasm_codec.specs.Encoding.{IsMinimal}
 use Rattle.wasm_codec.specs.Leb128.{unsigned_leb128}
 use Rattle.wasm_codec.specs.formats.Numbers.{EncodesU32, EncodesU64}
 use Rattle.wasm_codec.proofs.FormatLaws.{IsFound, Every-made, Lawful-made, Lawful-then, Lawful-both, Lawful-one-byte, Lawful-u32, Lawful-u64, Tagged-or, Tagged-never, takes_bytes}
@@ -236,28 +236,28 @@ pub memory_put : (m : MemoryType) (old one more most new : List ℕ) (byte : ℕ
 unfolding memory_type memory_flags
 memory_put m old one more most new byte e p q r s = rw e (four old (byte ∷ []) (unsigned_leb128 m.minimum) ((part_if (is_some m.maximum) u64).bytes m.maximum) ((part_if (is_some m.page_size_log2) u32).bytes m.page_size_log2) one more most new p q r s)
 
-in_u64 : (n : ℕ) → IsShortest EncodesU64 unsigned_leb128 n → n < 2 ^ 64
+in_u64 : (n : ℕ) → IsMinimal EncodesU64 unsigned_leb128 n → n < 2 ^ 64
 in_u64 n h = in_range_of u64 Lawful-u64 n h
 
-in_u32 : (n : ℕ) → IsShortest EncodesU32 unsigned_leb128 n → n < 2 ^ 32
+in_u32 : (n : ℕ) → IsMinimal EncodesU32 unsigned_leb128 n → n < 2 ^ 32
 in_u32 n h = in_range_of u32 Lawful-u32 n h
 
 some_in : {P Q : ℕ → Type 0} → ((n : ℕ) → P n → Q n) → (o : Option ℕ) → IfSome o P → IfSome o Q
 some_in f None h = tt
 some_in f (Some n) h = f n h
 
-pub memory_written : (m : MemoryType) → IsShortest EncodesU64 unsigned_leb128 m.minimum → IfSome m.maximum (IsShortest EncodesU64 unsigned_leb128) → IfSome m.page_size_log2 (IsShortest EncodesU32 unsigned_leb128) → IsShortest memory_type.Encodes memory_type.bytes m
+pub memory_written : (m : MemoryType) → IsMinimal EncodesU64 unsigned_leb128 m.minimum → IfSome m.maximum (IsMinimal EncodesU64 unsigned_leb128) → IfSome m.page_size_log2 (IsMinimal EncodesU32 unsigned_leb128) → IsMinimal memory_type.Encodes memory_type.bytes m
 unfolding memory_type
-memory_written m least most page = written Lawful-memory-type.shortest m (record { minimum = in_u64 m.minimum least; maximum = some_in in_u64 m.maximum most; page_size_log2 = some_in in_u32 m.page_size_log2 page })
+memory_written m least most page = written Lawful-memory-type.minimal m (record { minimum = in_u64 m.minimum least; maximum = some_in in_u64 m.maximum most; page_size_log2 = some_in in_u32 m.page_size_log2 page })
 
 pub table_put : (t : TableType) (old one more most new : List ℕ) (byte : ℕ) → flags_byte (is_some t.maximum, (t.shared, t.table64)) ≡ Some byte → one ≡ old ++ ref_type.bytes t.element_type → more ≡ one ++ byte ∷ [] → most ≡ more ++ unsigned_leb128 t.minimum
     → new ≡ most ++ (part_if (is_some t.maximum) u64).bytes t.maximum → new ≡ old ++ table_type.bytes t
 unfolding table_type limits_flags
 table_put t old one more most new byte e p q r s = rw e (four old (ref_type.bytes t.element_type) (byte ∷ []) (unsigned_leb128 t.minimum) ((part_if (is_some t.maximum) u64).bytes t.maximum) one more most new p q r s)
 
-pub table_written : (t : TableType) → HeapTypeFits t.element_type.heap_type → IsShortest EncodesU64 unsigned_leb128 t.minimum → IfSome t.maximum (IsShortest EncodesU64 unsigned_leb128) → IsShortest table_type.Encodes table_type.bytes t
+pub table_written : (t : TableType) → HeapTypeFits t.element_type.heap_type → IsMinimal EncodesU64 unsigned_leb128 t.minimum → IfSome t.maximum (IsMinimal EncodesU64 unsigned_leb128) → IsMinimal table_type.Encodes table_type.bytes t
 unfolding table_type
-table_written t fits least most = written Lawful-table-type.shortest t (record { element_type = in_range_of ref_type Lawful-ref-type t.element_type (ref_written t.element_type fits); minimum = in_u64 t.minimum least; maximum = some_in in_u64 t.maximum most })
+table_written t fits least most = written Lawful-table-type.minimal t (record { element_type = in_range_of ref_type Lawful-ref-type t.element_type (ref_written t.element_type fits); minimum = in_u64 t.minimum least; maximum = some_in in_u64 t.maximum most })
 
 -- ---- globals and tags
 
@@ -271,9 +271,9 @@ global_there true false = refl
 global_there false true = refl
 global_there true true = refl
 
-pub global_written : (g : GlobalType) → ValTypeFits g.val_type → IsShortest global_type.Encodes global_type.bytes g
+pub global_written : (g : GlobalType) → ValTypeFits g.val_type → IsMinimal global_type.Encodes global_type.bytes g
 unfolding global_type global_flags
-global_written g fits = written Lawful-global-type.shortest g ((val_in_range g.val_type fits, global_there g.mutable g.shared), refl)
+global_written g fits = written Lawful-global-type.minimal g ((val_in_range g.val_type fits, global_there g.mutable g.shared), refl)
 
 pub tag_put : (t : TagType) (old one new : List ℕ) → one ≡ old ++ 0x00 ∷ [] → new ≡ one ++ unsigned_leb128 t.func_type_idx → new ≡ old ++ tag_type.bytes t
 unfolding tag_type
@@ -287,34 +287,34 @@ tag_there t small = by t.kind refl where
   by : (kind : TagKind) → t.kind ≡ kind → tag_type.InRange t
   by tag_kinds.Exception is = rw is ((refl, small), refl)
 
-pub tag_written : (t : TagType) → IsShortest EncodesU32 unsigned_leb128 t.func_type_idx → IsShortest tag_type.Encodes tag_type.bytes t
-tag_written t h = written Lawful-tag-type.shortest t (tag_there t (in_u32 t.func_type_idx h))
+pub tag_written : (t : TagType) → IsMinimal EncodesU32 unsigned_leb128 t.func_type_idx → IsMinimal tag_type.Encodes tag_type.bytes t
+tag_written t h = written Lawful-tag-type.minimal t (tag_there t (in_u32 t.func_type_idx h))
 
 -- ---- what is imported
 
-pub function_entity_written : (n : ℕ) → IsShortest EncodesU32 unsigned_leb128 n → IsShortest entity_type.Encodes entity_type.bytes (entities.Function n)
+pub function_entity_written : (n : ℕ) → IsMinimal EncodesU32 unsigned_leb128 n → IsMinimal entity_type.Encodes entity_type.bytes (entities.Function n)
 unfolding entity_type
-function_entity_written n h = written Lawful-entity-type.shortest (entities.Function n) (in_u32 n h, refl)
+function_entity_written n h = written Lawful-entity-type.minimal (entities.Function n) (in_u32 n h, refl)
 
-pub exact_entity_written : (n : ℕ) → IsShortest EncodesU32 unsigned_leb128 n → IsShortest entity_type.Encodes entity_type.bytes (entities.FunctionExact n)
+pub exact_entity_written : (n : ℕ) → IsMinimal EncodesU32 unsigned_leb128 n → IsMinimal entity_type.Encodes entity_type.bytes (entities.FunctionExact n)
 unfolding entity_type
-exact_entity_written n h = written Lawful-entity-type.shortest (entities.FunctionExact n) (in_u32 n h, refl)
+exact_entity_written n h = written Lawful-entity-type.minimal (entities.FunctionExact n) (in_u32 n h, refl)
 
-pub table_entity_written : (t : TableType) → IsShortest table_type.Encodes table_type.bytes t → IsShortest entity_type.Encodes entity_type.bytes (entities.Table t)
+pub table_entity_written : (t : TableType) → IsMinimal table_type.Encodes table_type.bytes t → IsMinimal entity_type.Encodes entity_type.bytes (entities.Table t)
 unfolding entity_type
-table_entity_written t h = written Lawful-entity-type.shortest (entities.Table t) (in_range_of table_type Lawful-table-type t h, refl)
+table_entity_written t h = written Lawful-entity-type.minimal (entities.Table t) (in_range_of table_type Lawful-table-type t h, refl)
 
-pub memory_entity_written : (m : MemoryType) → IsShortest memory_type.Encodes memory_type.bytes m → IsShortest entity_type.Encodes entity_type.bytes (entities.Memory m)
+pub memory_entity_written : (m : MemoryType) → IsMinimal memory_type.Encodes memory_type.bytes m → IsMinimal entity_type.Encodes entity_type.bytes (entities.Memory m)
 unfolding entity_type
-memory_entity_written m h = written Lawful-entity-type.shortest (entities.Memory m) (in_range_of memory_type Lawful-memory-type m h, refl)
+memory_entity_written m h = written Lawful-entity-type.minimal (entities.Memory m) (in_range_of memory_type Lawful-memory-type m h, refl)
 
-pub global_entity_written : (g : GlobalType) → IsShortest global_type.Encodes global_type.bytes g → IsShortest entity_type.Encodes entity_type.bytes (entities.Global g)
+pub global_entity_written : (g : GlobalType) → IsMinimal global_type.Encodes global_type.bytes g → IsMinimal entity_type.Encodes entity_type.bytes (entities.Global g)
 unfolding entity_type
-global_entity_written g h = written Lawful-entity-type.shortest (entities.Global g) (in_range_of global_type Lawful-global-type g h, refl)
+global_entity_written g h = written Lawful-entity-type.minimal (entities.Global g) (in_range_of global_type Lawful-global-type g h, refl)
 
-pub tag_entity_written : (t : TagType) → IsShortest tag_type.Encodes tag_type.bytes t → IsShortest entity_type.Encodes entity_type.bytes (entities.Tag t)
+pub tag_entity_written : (t : TagType) → IsMinimal tag_type.Encodes tag_type.bytes t → IsMinimal entity_type.Encodes entity_type.bytes (entities.Tag t)
 unfolding entity_type
-tag_entity_written t h = written Lawful-entity-type.shortest (entities.Tag t) (in_range_of tag_type Lawful-tag-type t h, refl)
+tag_entity_written t h = written Lawful-entity-type.minimal (entities.Tag t) (in_range_of tag_type Lawful-tag-type t h, refl)
 
 -- ---- the items of sections of memories and tags
 

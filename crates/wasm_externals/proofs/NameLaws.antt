@@ -8,7 +8,7 @@ use Rattle.wasm_codec.specs.Places.{Place, place, u32_at}
 use Rattle.wasm_codec.specs.Lawful.{IsLawful, IsLawfulBody}
 use Rattle.wasm_codec.specs.Rewriter.{Rewriting, rewriting_after}
 use Rattle.wasm_codec.specs.formats.Bodies.{bytes_to_end, body_at}
-use Rattle.wasm_codec.specs.Encoding.{IsCount, IsShortest}
+use Rattle.wasm_codec.specs.Encoding.{IsCount, IsMinimal}
 use Rattle.wasm_codec.proofs.Laws.{some_is}
 use Rattle.wasm_codec.proofs.NumberLaws.{written}
 use Rattle.wasm_lists.proofs.WrittenLists.{in_range_of}
@@ -19,15 +19,15 @@ use Rattle.wasm_externals.specs.formats.Names.{utf8_to_end, name}
 pub text_is_lawful : IsLawfulBody utf8_to_end
 text_is_lawful = record {
   reads = record { sound = sound; complete = λ body v s g. rw (g.0, g.2, keeps_same s v) refl };
-  shortest = record { encodes = λ v fits. (refl, fits.0, fits.1); again = λ bytes v g. (refl, g.1, g.2); least = λ bytes v g. inl g.0 };
+  minimal = record { encodes = λ v fits. (refl, fits.0, fits.1); again = λ bytes v g. (refl, g.1, g.2); least = λ bytes v g. inl g.0 };
   in_range = λ bytes v g. (g.1, g.2);
   are_bytes = λ bytes v g. rw g.0 g.1;
 } where
   sound : (p : Place) (v : List ℕ) (q : Place) → IsBytes p.left → utf8_to_end.at p ≡ Some (v, q) → q.left ≡ [] → utf8_to_end.Encodes p.left v
   sound p v q fits e none = by (is_utf8 p.left) refl e where
-    by : (t : Bool) → is_utf8 p.left ≡ t → cond {A = Option (List ℕ × Place)} t (Some (p.left, place p.shortest [])) None ≡ Some (v, q) → utf8_to_end.Encodes p.left v
+    by : (t : Bool) → is_utf8 p.left ≡ t → cond {A = Option (List ℕ × Place)} t (Some (p.left, place p.minimal [])) None ≡ Some (v, q) → utf8_to_end.Encodes p.left v
     by true is e =
-        let same : p.left ≡ v = ap (λ (x : List ℕ × Place). x.0) (some_is (p.left, place p.shortest []) (v, q) e) in
+        let same : p.left ≡ v = ap (λ (x : List ℕ × Place). x.0) (some_is (p.left, place p.minimal []) (v, q) e) in
         (same, subst IsBytes same fits, subst (λ (t : List ℕ). is_utf8 t ≡ true) same is)
     by false other e = absurd cc
 
@@ -37,7 +37,7 @@ name_is_lawful = Lawful-sized text_is_lawful
 
 -- ---- reading
 
-pub name_read : (p mid q : Place) (n : ℕ) (text : List ℕ) → u32_at p ≡ Some (n, mid) → n ≤ length mid.left → text ≡ take n mid.left → q ≡ place mid.shortest (drop n mid.left) → IsUtf8 text → name.at p ≡ Some (text, q)
+pub name_read : (p mid q : Place) (n : ℕ) (text : List ℕ) → u32_at p ≡ Some (n, mid) → n ≤ length mid.left → text ≡ take n mid.left → q ≡ place mid.minimal (drop n mid.left) → IsUtf8 text → name.at p ≡ Some (text, q)
 unfolding name
 name_read p mid q n text e le is after u =
     let long : ltb (length mid.left) n ≡ false = le-ltb _ _ le in
@@ -93,9 +93,9 @@ text_refused p text is not =
 pub utf8_test : (text : List ℕ) → IsUtf8 text → is_utf8 text ≡ true
 utf8_test text u = is_utf8-from_IsUtf8 text u
 
-pub name_written : (text : List ℕ) → IsBytes text → is_utf8 text ≡ true → IsCount (length text) → IsShortest name.Encodes name.bytes text
+pub name_written : (text : List ℕ) → IsBytes text → is_utf8 text ≡ true → IsCount (length text) → IsMinimal name.Encodes name.bytes text
 unfolding name
-name_written text bytes utf8 few = written name_is_lawful.shortest text ((bytes, utf8), few)
+name_written text bytes utf8 few = written name_is_lawful.minimal text ((bytes, utf8), few)
 
-pub in_name : (text : List ℕ) → IsShortest name.Encodes name.bytes text → name.InRange text
+pub in_name : (text : List ℕ) → IsMinimal name.Encodes name.bytes text → name.InRange text
 in_name text h = in_range_of name name_is_lawful text h

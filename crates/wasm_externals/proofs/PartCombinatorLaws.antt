@@ -7,14 +7,14 @@ use Rattle.std.proofs.lemmas.Bool.Decides.{eqb_tells}
 use Rattle.std.specs.List.{flat_map}
 use Rattle.wasm_codec.specs.formats.Grammar.{Grammar, IsBytes, TakesBytes, Joined}
 use Rattle.wasm_codec.specs.Reading.{BeginsWith}
-use Rattle.wasm_codec.specs.Encoding.{IsShortestOrLonger}
+use Rattle.wasm_codec.specs.Encoding.{IsMinimalOrLonger}
 use Rattle.wasm_codec.specs.formats.Numbers.{EncodesU32}
 use Rattle.wasm_codec.specs.Leb128.{unsigned_leb128, digits_of}
 use Rattle.wasm_codec.specs.Places.{Place, place, keeps}
 use Rattle.wasm_codec.specs.formats.Combinators.{Format, ◌⊗>◌, u32, any_byte}
 use Rattle.wasm_codec.specs.Lawful.{head_of, IsLawful}
 use Rattle.wasm_codec.proofs.Laws.{bind_some, in_a_row, IsBytes-after, least_then}
-use Rattle.wasm_codec.proofs.Joining.{Shortest-joined}
+use Rattle.wasm_codec.proofs.Joining.{WritesMinimally-joined}
 use Rattle.wasm_codec.proofs.FormatLaws.{IsShorter, BeginsWith-at, keeps_then, read_in_row, joined_in_range, joined_bytes, read_in_range, Lawful-nothing, Lawful-made, Lawful-made-as, Lawful-then, Lawful-choose, Lawful-u32}
 use Rattle.wasm_codec.proofs.BodyLaws.{some_bytes}
 use Rattle.wasm_externals.specs.formats.PartCombinators.{some_of, part_if, is_other, numbered_bytes, NumberedInRange, numbered, Move, goes_on, ends, fails, GoesOnWith, AreEnded, moved, until_at, until}
@@ -68,7 +68,7 @@ module _ {V : Type 0} (number_of : V → ℕ) (G : ℕ → Format V) (r : IsNumb
   -- by its own number, or longer
   record ByNumber (n : ℕ) (bytes back : List ℕ) (v : V) : Type 0 where
     in_range : (G (number_of v)).InRange v
-    least : IsShortestOrLonger bytes (numbered_bytes number_of G v)
+    least : IsMinimalOrLonger bytes (numbered_bytes number_of G v)
 
   by_number : (n : ℕ) (bytes prefix back : List ℕ) (v : V) → bytes ≡ prefix ++ back → EncodesU32 prefix n → (G n).Encodes back v → ByNumber n bytes back v
   by_number n bytes prefix back v e g h = elim (eqb_tells n (number_of v)) [
@@ -77,7 +77,7 @@ module _ {V : Type 0} (number_of : V → ℕ) (G : ℕ → Format V) (r : IsNumb
         let counts : EncodesU32 prefix (number_of v) = subst (λ (k : ℕ). EncodesU32 prefix k) same.1 g in
         record {
           in_range = (r.lawful (number_of v)).in_range back v own;
-          least = least_then bytes prefix back (unsigned_leb128 (number_of v)) ((G (number_of v)).bytes v) e (Lawful-u32.shortest.least prefix (number_of v) counts) ((r.lawful (number_of v)).shortest.least back v own);
+          least = least_then bytes prefix back (unsigned_leb128 (number_of v)) ((G (number_of v)).bytes v) e (Lawful-u32.minimal.least prefix (number_of v) counts) ((r.lawful (number_of v)).minimal.least back v own);
         }
     | inr differs ↦
         let o = r.other n back v h differs.1 in
@@ -92,21 +92,21 @@ module _ {V : Type 0} (number_of : V → ℕ) (G : ℕ → Format V) (r : IsNumb
   numbered_encodes : (v : V) → (G (number_of v)).InRange v → (numbered number_of G).Encodes (numbered_bytes number_of G v) v
   numbered_encodes v fits =
       let small : number_of v < 2 ^ 32 = omega (arith, r.low v) in
-      ((number_of v, v), (unsigned_leb128 (number_of v), (G (number_of v)).bytes v, refl, Lawful-u32.shortest.encodes (number_of v) small, (r.lawful (number_of v)).shortest.encodes v fits), refl)
+      ((number_of v, v), (unsigned_leb128 (number_of v), (G (number_of v)).bytes v, refl, Lawful-u32.minimal.encodes (number_of v) small, (r.lawful (number_of v)).minimal.encodes v fits), refl)
 
-  numbered_is : (bytes : List ℕ) (v : V) → (numbered number_of G).Encodes bytes v → (G (number_of v)).InRange v × IsShortestOrLonger bytes (numbered_bytes number_of G v)
+  numbered_is : (bytes : List ℕ) (v : V) → (numbered number_of G).Encodes bytes v → (G (number_of v)).InRange v × IsMinimalOrLonger bytes (numbered_bytes number_of G v)
   numbered_is bytes v g =
       let one = by_number g.0.0 bytes g.1.0 g.1.1 g.0.1 g.1.2 g.1.3 g.1.4 in
-      subst (λ (w : V). (G (number_of w)).InRange w × IsShortestOrLonger bytes (numbered_bytes number_of G w)) g.2 (one.in_range, one.least)
+      subst (λ (w : V). (G (number_of w)).InRange w × IsMinimalOrLonger bytes (numbered_bytes number_of G w)) g.2 (one.in_range, one.least)
 
   shorter : (prefix : List ℕ) (p : ℕ × V) → (u32 ⊗> G).Encodes prefix p → IsShorter (is_other number_of p) (numbered_bytes number_of G p.1) ((u32 ⊗> G).bytes p)
   shorter prefix p g = elim (eqb_tells p.0 (number_of p.1)) [
     | inl same ↦ rw same.0 (ap (λ (n : ℕ). unsigned_leb128 n ++ (G n).bytes p.1) (sym same.1))
     | inr differs ↦
-        let again = (r.lawful p.0).shortest.again g.1 p.1 g.4 in
+        let again = (r.lawful p.0).minimal.again g.1 p.1 g.4 in
         let o = r.other p.0 ((G p.0).bytes p.1) p.1 again differs.1 in
         let one = one_digit (number_of p.1) (r.low p.1) in
-        let some = number_takes (unsigned_leb128 p.0) p.0 (Lawful-u32.shortest.again g.0 p.0 g.3) in
+        let some = number_takes (unsigned_leb128 p.0) p.0 (Lawful-u32.minimal.again g.0 p.0 g.3) in
         rw differs.0 (omega (arith, o.1, one, some, length-append (unsigned_leb128 p.0) ((G p.0).bytes p.1), length-append (unsigned_leb128 (number_of p.1)) ((G (number_of p.1)).bytes p.1)))
   ]
 
@@ -194,7 +194,7 @@ module _ {S A : Type 0} (next : S → A → Move S) (end : A) {F : Format A} (r 
         let p : F.at (place t (prefix ++ rest)) ≡ Some (v, place mid (g.1 ++ rest)) = read_in_row F.at t prefix g.0 g.1 rest (Some (v, place mid (g.1 ++ rest))) g.2 (r.reads.complete g.0 v (g.1 ++ rest) t g.3) in
         let more = further u g.1 vs rest mid (omega (arith, lt, le, ap (length {A = ℕ}) g.2, length-append g.0 g.1)) g.4 h in
         let k : keeps mid g.1 (flat_map F.bytes (vs ++ end ∷ [])) ≡ keeps t prefix (F.bytes v ++ flat_map F.bytes (vs ++ end ∷ [])) =
-        keeps_then t g.0 g.1 (F.bytes v) (flat_map F.bytes (vs ++ end ∷ [])) (r.shortest.least g.0 v g.3) ((Shortest-joined r.shortest).least g.1 (vs ++ end ∷ []) g.4)
+        keeps_then t g.0 g.1 (F.bytes v) (flat_map F.bytes (vs ++ end ∷ [])) (r.minimal.least g.0 v g.3) ((WritesMinimally-joined r.minimal).least g.1 (vs ++ end ∷ []) g.4)
         ∙ ap (λ (f : List ℕ). keeps t f (F.bytes v ++ flat_map F.bytes (vs ++ end ∷ []))) (sym g.2) in
         rw (p, is, more, k) refl
     by further ends is h = absurd h
@@ -206,10 +206,10 @@ module _ {S A : Type 0} (next : S → A → Move S) (end : A) {F : Format A} (r 
       sound = λ p vs q fits e. until_sound (length p.left) s p vs q fits e;
       complete = λ prefix vs rest t g. until_complete (length (prefix ++ rest)) s prefix vs rest t (omega (arith, length-append prefix rest)) g.0 g.1;
     };
-    shortest = record {
-      encodes = λ vs fits. ((Shortest-joined r.shortest).encodes (vs ++ end ∷ []) fits.0, fits.1);
-      again = λ bytes vs g. ((Shortest-joined r.shortest).again bytes (vs ++ end ∷ []) g.0, g.1);
-      least = λ bytes vs g. (Shortest-joined r.shortest).least bytes (vs ++ end ∷ []) g.0;
+    minimal = record {
+      encodes = λ vs fits. ((WritesMinimally-joined r.minimal).encodes (vs ++ end ∷ []) fits.0, fits.1);
+      again = λ bytes vs g. ((WritesMinimally-joined r.minimal).again bytes (vs ++ end ∷ []) g.0, g.1);
+      least = λ bytes vs g. (WritesMinimally-joined r.minimal).least bytes (vs ++ end ∷ []) g.0;
     };
     in_range = λ bytes vs g. (joined_in_range r bytes (vs ++ end ∷ []) g.0, g.1);
     are_bytes = λ bytes vs g. joined_bytes r bytes (vs ++ end ∷ []) g.0;

@@ -1,11 +1,11 @@
--- Names, expressions and types of imports that are seen at once to be in their shortest encodings.
+-- Names, expressions and types of imports that are seen at once to be in their minimal encodings.
 use Rattle.std.proofs.Common.{◌≡◌, ℕ, zero, suc, ◌+◌, ◌-◌, ◌<◌, ◌≤◌, true, false, List, [], ◌∷◌, length, get_or, take, drop, drop-drop, length-drop, Some, refl, sym, subst, ◌∙◌, arith, lit≤}
 use Rattle.std.specs.Str.{IsAscii}
 use Rattle.std.proofs.lemmas.Bool.{ne_eqb}
 use Rattle.std.proofs.lemmas.Str.{IsUtf8-from_ascii}
 use Rattle.wasm_codec.specs.Places.{place, byte_at}
 use Rattle.wasm_codec.specs.Scanning.{Scans}
-use Rattle.wasm_codec.specs.declared.rewriter.scan.Scanned.TheVariants.{Shortest}
+use Rattle.wasm_codec.specs.declared.rewriter.scan.Scanned.TheVariants.{Minimal}
 use Rattle.wasm_codec.specs.formats.Combinators.{u32, ◌⊗◌}
 use Rattle.wasm_codec.proofs.NumberReading.{u32_one}
 use Rattle.wasm_types.specs.formats.Types.{val_type}
@@ -30,16 +30,16 @@ ones_ascii [] all (suc i) = lit≤ tt
 ones_ascii (b ∷ bytes) all zero = all.0
 ones_ascii (b ∷ bytes) all (suc i) = ones_ascii bytes all.1 i
 
-name_behind : (count : ℕ) (bytes : List ℕ) → count < 128 → count ≤ length bytes → AreOnes (take count bytes) → Scans name (count ∷ bytes) (Some (Shortest (1 + count)))
+name_behind : (count : ℕ) (bytes : List ℕ) → count < 128 → count ≤ length bytes → AreOnes (take count bytes) → Scans name (count ∷ bytes) (Some (Minimal (1 + count)))
 name_behind count bytes lt within all =
     let next : 1 + count ≡ suc count = omega arith in
     let size = u32_one (place true (count ∷ bytes)) (place true bytes) count lt refl in
     (omega (arith, within), (take count bytes, rw next (name_read (place true (count ∷ bytes)) (place true bytes) (place true (drop count bytes)) count (take count bytes) size within refl refl (IsUtf8-from_ascii (take count bytes) (ones_ascii (take count bytes) all)))))
 
-pub name_scanned : (bytes : List ℕ) (count : ℕ) → 0 < length bytes → get_or bytes 0 0 ≡ count → count < 128 → count ≤ length bytes - 1 → AreOnes (take count (drop 1 bytes)) → Scans name bytes (Some (Shortest (1 + count)))
+pub name_scanned : (bytes : List ℕ) (count : ℕ) → 0 < length bytes → get_or bytes 0 0 ≡ count → count < 128 → count ≤ length bytes - 1 → AreOnes (take count (drop 1 bytes)) → Scans name bytes (Some (Minimal (1 + count)))
 name_scanned [] count some is lt within all = absurd (omega (arith, some))
 name_scanned (first ∷ bytes) count some is lt within all =
-    subst (λ (n : ℕ). Scans name (n ∷ bytes) (Some (Shortest (1 + count)))) (sym is) (name_behind count bytes lt (omega (arith, within)) all)
+    subst (λ (n : ℕ). Scans name (n ∷ bytes) (Some (Minimal (1 + count)))) (sym is) (name_behind count bytes lt (omega (arith, within)) all)
 
 -- ---- expressions
 
@@ -65,7 +65,7 @@ unfolding byte_at
 first_byte [] some = absurd (omega (arith, some))
 first_byte (b ∷ bytes) some = refl
 
-pub expr_scanned : (bytes : List ℕ) (count : ℕ) → 0x20 ≤ get_or bytes 0 0 → count < length bytes → get_or bytes count 0 ≡ 0x0b → Scans instruction bytes (Some (Shortest count)) → Scans expr bytes (Some (Shortest (count + 1)))
+pub expr_scanned : (bytes : List ℕ) (count : ℕ) → 0x20 ≤ get_or bytes 0 0 → count < length bytes → get_or bytes count 0 ≡ 0x0b → Scans instruction bytes (Some (Minimal count)) → Scans expr bytes (Some (Minimal (count + 1)))
 unfolding expr
 expr_scanned bytes count le within is r =
     let p = place true bytes in
@@ -84,7 +84,7 @@ expr_scanned bytes count le within is r =
 
 -- ---- types of imports
 
-flags_scanned : (b : ℕ) (more : List ℕ) → b < 4 → Scans global_flags (b ∷ more) (Some (Shortest 1))
+flags_scanned : (b : ℕ) (more : List ℕ) → b < 4 → Scans global_flags (b ∷ more) (Some (Minimal 1))
 unfolding global_flags byte_at
 flags_scanned zero more lt = (omega arith, ((false, false), refl))
 flags_scanned (suc zero) more lt = (omega arith, ((true, false), refl))
@@ -92,29 +92,29 @@ flags_scanned (suc (suc zero)) more lt = (omega arith, ((false, true), refl))
 flags_scanned (suc (suc (suc zero))) more lt = (omega arith, ((true, true), refl))
 flags_scanned (suc (suc (suc (suc b)))) more lt = absurd (omega (arith, lt))
 
-pub global_type_scanned : (bytes : List ℕ) → 2 ≤ length bytes → IsWhole (get_or bytes 0 0) → get_or bytes 1 0 < 4 → Scans global_type bytes (Some (Shortest 2))
+pub global_type_scanned : (bytes : List ℕ) → 2 ≤ length bytes → IsWhole (get_or bytes 0 0) → get_or bytes 1 0 < 4 → Scans global_type bytes (Some (Minimal 2))
 unfolding global_type
 global_type_scanned [] some whole lt = absurd (omega (arith, some))
 global_type_scanned (a ∷ []) some whole lt = absurd (omega (arith, some))
 global_type_scanned (a ∷ b ∷ bytes) some whole lt =
-    made_scanned global_type_of (λ g. Some (g.val_type, (g.mutable, g.shared))) (val_type ⊗ global_flags) (λ a. refl) (a ∷ b ∷ bytes) (Some (Shortest 2)) (pair_scanned val_type global_flags (a ∷ b ∷ bytes) 1 1 (whole (b ∷ bytes)) (flags_scanned b bytes lt))
+    made_scanned global_type_of (λ g. Some (g.val_type, (g.mutable, g.shared))) (val_type ⊗ global_flags) (λ a. refl) (a ∷ b ∷ bytes) (Some (Minimal 2)) (pair_scanned val_type global_flags (a ∷ b ∷ bytes) 1 1 (whole (b ∷ bytes)) (flags_scanned b bytes lt))
 
-function_behind : (bytes : List ℕ) (n : ℕ) → Scans u32 bytes (Some (Shortest n)) → Scans entity_type (0x00 ∷ bytes) (Some (Shortest (1 + n)))
+function_behind : (bytes : List ℕ) (n : ℕ) → Scans u32 bytes (Some (Minimal n)) → Scans entity_type (0x00 ∷ bytes) (Some (Minimal (1 + n)))
 unfolding entity_type byte_at
 function_behind bytes n r =
     let next : 1 + n ≡ suc n = omega arith in
     (omega (arith, r.0), (entities.Function r.1.0, rw (next, r.1.1) refl))
 
-global_behind : (bytes : List ℕ) (n : ℕ) → Scans global_type bytes (Some (Shortest n)) → Scans entity_type (0x03 ∷ bytes) (Some (Shortest (1 + n)))
+global_behind : (bytes : List ℕ) (n : ℕ) → Scans global_type bytes (Some (Minimal n)) → Scans entity_type (0x03 ∷ bytes) (Some (Minimal (1 + n)))
 unfolding entity_type byte_at
 global_behind bytes n r =
     let next : 1 + n ≡ suc n = omega arith in
     (omega (arith, r.0), (entities.Global r.1.0, rw (next, r.1.1) refl))
 
-pub function_scanned : (bytes : List ℕ) (n : ℕ) → 0 < length bytes → get_or bytes 0 0 ≡ 0x00 → Scans u32 (drop 1 bytes) (Some (Shortest n)) → Scans entity_type bytes (Some (Shortest (1 + n)))
+pub function_scanned : (bytes : List ℕ) (n : ℕ) → 0 < length bytes → get_or bytes 0 0 ≡ 0x00 → Scans u32 (drop 1 bytes) (Some (Minimal n)) → Scans entity_type bytes (Some (Minimal (1 + n)))
 function_scanned [] n some is r = absurd (omega (arith, some))
-function_scanned (b ∷ bytes) n some is r = subst (λ (k : ℕ). Scans entity_type (k ∷ bytes) (Some (Shortest (1 + n)))) (sym is) (function_behind bytes n r)
+function_scanned (b ∷ bytes) n some is r = subst (λ (k : ℕ). Scans entity_type (k ∷ bytes) (Some (Minimal (1 + n)))) (sym is) (function_behind bytes n r)
 
-pub global_scanned : (bytes : List ℕ) (n : ℕ) → 0 < length bytes → get_or bytes 0 0 ≡ 0x03 → Scans global_type (drop 1 bytes) (Some (Shortest n)) → Scans entity_type bytes (Some (Shortest (1 + n)))
+pub global_scanned : (bytes : List ℕ) (n : ℕ) → 0 < length bytes → get_or bytes 0 0 ≡ 0x03 → Scans global_type (drop 1 bytes) (Some (Minimal n)) → Scans entity_type bytes (Some (Minimal (1 + n)))
 global_scanned [] n some is r = absurd (omega (arith, some))
-global_scanned (b ∷ bytes) n some is r = subst (λ (k : ℕ). Scans entity_type (k ∷ bytes) (Some (Shortest (1 + n)))) (sym is) (global_behind bytes n r)
+global_scanned (b ∷ bytes) n some is r = subst (λ (k : ℕ). Scans entity_type (k ∷ bytes) (Some (Minimal (1 + n)))) (sym is) (global_behind bytes n r)

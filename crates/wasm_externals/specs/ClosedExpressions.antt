@@ -1,7 +1,7 @@
 -- Expressions that can be written, and those whose blocks are closed (WebAssembly Core 3.0, Expressions).
 use Rattle.std.specs.Prelude.{ℕ, List, Result, IfOk}
 use Rattle.std.specs.List.{AllByRecursion}
-use Rattle.wasm_codec.specs.Encoding.{IsShortest}
+use Rattle.wasm_codec.specs.Encoding.{IsMinimal}
 use Rattle.wasm_codec.specs.Outcomes.{EncodesSome, IfRefused, IsLongestPrefix, IsOrMemory}
 use Rattle.wasm_codec.specs.declared.reader.ReadError.{ReadError}
 use Rattle.wasm_instructions.specs.Appending.{CountedCall}
@@ -19,7 +19,7 @@ IsCountedExpr calls = AllByRecursion CountedCall calls
 
 -- If the expression closes its blocks, its encoding is right and every other is longer.
 abbrev pub IsWrittenExpr : List Instruction → Type 0
-IsWrittenExpr calls = IsClosed calls → IsShortest expr.Encodes expr.bytes calls
+IsWrittenExpr calls = IsClosed calls → IsMinimal expr.Encodes expr.bytes calls
 
 -- A call that reads an expression without the final `end`.
 pub record ReadsClosed (bytes : List ℕ) (result : Result (List Instruction) ReadError) : Type 0 where

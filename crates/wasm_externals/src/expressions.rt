@@ -2,14 +2,14 @@
 ghost use Rattle.std.specs.Prelude.{◌≡◌, ◌+◌, ◌^◌, ◌<◌, IsTrue, IsFalse, ◌++◌, OnOk, OnErr, IfErr, length, take, Some, IfSome};
 ghost use Rattle.wasm_externals.specs.ClosedExpressions.{IsClosed, IsCountedExpr};
 ghost use Rattle.wasm_codec.specs.Scanning.{Scans};
-ghost use Rattle.wasm_codec.specs.declared.rewriter.scan.Scanned.TheVariants.{Shortest};
+ghost use Rattle.wasm_codec.specs.declared.rewriter.scan.Scanned.TheVariants.{Minimal};
 ghost use Rattle.wasm_codec.specs.Outcomes.{IsMalformed};
 ghost use Rattle.wasm_codec.specs.Places.{Reads, Sees};
 ghost use Rattle.wasm_instructions.specs.formats.Instructions.{instruction};
 ghost use Rattle.wasm_codec.specs.Rewriter.{Rewrites};
 ghost use Rattle.wasm_externals.specs.formats.Nesting.{as_move};
 ghost use Rattle.wasm_externals.specs.formats.Expressions.{nested, nested_by, expr};
-ghost use Rattle.wasm_codec.specs.Encoding.{IsRefusal, IsShortest, OnlyTooLong};
+ghost use Rattle.wasm_codec.specs.Encoding.{IsRefusal, IsMinimal, OnlyTooLong};
 
 use std::alloc::{Allocator, Global};
 use wasm_codec::encode::{EncodeError, keep_or_undo};
@@ -149,7 +149,7 @@ fn peek_opcode(rewriter: &Rewriter) -> Result<u8, Fault>
 /// instruction, minimally encoded, such as `i32.const`, `global.get` or `ref.func`.
 #[inline(always)]
 pub fn scan_expr(bytes: &[u8]) -> Option<usize>
-    ensures { IfSome result (λ count. Scans expr bytes.now (Some (Shortest count))) }
+    ensures { IfSome result (λ count. Scans expr bytes.now (Some (Minimal count))) }
 {
     if bytes.len() == 0 {
         return None;
@@ -158,7 +158,7 @@ pub fn scan_expr(bytes: &[u8]) -> Option<usize>
     if bytes[0] < 0x20 {
         return None;
     }
-    let Some(Scanned::Shortest(count)) = Call::scan(bytes) else {
+    let Some(Scanned::Minimal(count)) = Call::scan(bytes) else {
         return None;
     };
     if count >= bytes.len() {
@@ -199,7 +199,7 @@ pub fn encode_expr<A: Allocator>(calls: &[Call], sink: &mut Vec<u8, A>) -> Resul
     ensures ok { OnOk result (sink.new.items ≡ sink.old.items ++ expr.bytes calls.now) }
     ensures can { OnOk result (IsCountedExpr calls.now) }
     // If every block is closed, every other encoding of the expression is longer.
-    ensures written { OnOk result (IsClosed calls.now → IsShortest expr.Encodes expr.bytes calls.now) }
+    ensures written { OnOk result (IsClosed calls.now → IsMinimal expr.Encodes expr.bytes calls.now) }
     ensures refused { IfErr result (IsRefusal IsCountedExpr OnlyTooLong calls.now) }
     ensures err { OnErr result (sink.new.items ≡ sink.old.items) }
 {
@@ -212,7 +212,7 @@ pub fn encode_expr<A: Allocator>(calls: &[Call], sink: &mut Vec<u8, A>) -> Resul
 fn append_expr<A: Allocator>(calls: &[Call], sink: &mut Vec<u8, A>) -> Result<(), EncodeError>
     ensures ok { OnOk result (sink.new.items ≡ sink.old.items ++ expr.bytes calls.now) }
     ensures can { OnOk result (IsCountedExpr calls.now) }
-    ensures written { OnOk result (IsClosed calls.now → IsShortest expr.Encodes expr.bytes calls.now) }
+    ensures written { OnOk result (IsClosed calls.now → IsMinimal expr.Encodes expr.bytes calls.now) }
     ensures refused { IfErr result (IsRefusal IsCountedExpr OnlyTooLong calls.now) }
     ensures kept { take (length sink.old.items) sink.new.items ≡ sink.old.items }
 {

@@ -5,7 +5,7 @@ ghost use Rattle.wasm_codec.specs.formats.Combinators.{find, u32 as u32_format, 
 ghost use Rattle.wasm_externals.specs.formats.PartCombinators.{part_if};
 ghost use Rattle.wasm_externals.specs.formats.Externals.{flags_byte, all_flags, paged_byte, all_paged, limits_flags, memory_flags, memory_type, table_type};
 ghost use Rattle.wasm_externals.specs.declared.limits.MemoryType.{MemoryType};
-ghost use Rattle.wasm_codec.specs.Encoding.{IsShortest};
+ghost use Rattle.wasm_codec.specs.Encoding.{IsMinimal};
 ghost use Rattle.wasm_codec.specs.Leb128.{unsigned_leb128};
 ghost use Rattle.wasm_codec.specs.formats.Numbers.{EncodesU32, EncodesU64};
 
@@ -273,7 +273,7 @@ fn memory_byte(has_maximum: bool, shared: bool, wide: bool, paged: bool) -> u8
 fn put_u64_if<A: Allocator>(bytes: &mut Vec<u8, A>, value: Option<u64>)
     requires { vec_len bytes.old + 10 ≤ vec_capacity bytes.old }
     ensures items { bytes.new.items ≡ bytes.old.items ++ (part_if (is_some value) u64_format).bytes value }
-    ensures shortest { IfSome value (IsShortest EncodesU64 unsigned_leb128) }
+    ensures minimal { IfSome value (IsMinimal EncodesU64 unsigned_leb128) }
     ensures len { vec_len bytes.new ≤ vec_len bytes.old + 10 }
     ensures capacity { vec_capacity bytes.new ≡ vec_capacity bytes.old }
 {
@@ -287,7 +287,7 @@ fn put_u64_if<A: Allocator>(bytes: &mut Vec<u8, A>, value: Option<u64>)
 pub fn put_u32_if<A: Allocator>(bytes: &mut Vec<u8, A>, value: Option<u32>)
     requires { vec_len bytes.old + 5 ≤ vec_capacity bytes.old }
     ensures items { bytes.new.items ≡ bytes.old.items ++ (part_if (is_some value) u32_format).bytes value }
-    ensures shortest { IfSome value (IsShortest EncodesU32 unsigned_leb128) }
+    ensures minimal { IfSome value (IsMinimal EncodesU32 unsigned_leb128) }
     ensures len { vec_len bytes.new ≤ vec_len bytes.old + 5 }
     ensures capacity { vec_capacity bytes.new ≡ vec_capacity bytes.old }
 {
@@ -300,7 +300,7 @@ pub fn put_u32_if<A: Allocator>(bytes: &mut Vec<u8, A>, value: Option<u32>)
 pub(crate) fn put_memory_type<A: Allocator>(bytes: &mut Vec<u8, A>, ty: &MemoryType)
     requires { vec_len bytes.old + 26 ≤ vec_capacity bytes.old }
     ensures items { bytes.new.items ≡ bytes.old.items ++ memory_type.bytes ty.now }
-    ensures written { IsShortest memory_type.Encodes memory_type.bytes ty.now }
+    ensures written { IsMinimal memory_type.Encodes memory_type.bytes ty.now }
 {
     bytes.push_reserved(memory_byte(
         ty.maximum.is_some(),
@@ -317,7 +317,7 @@ pub(crate) fn put_memory_type<A: Allocator>(bytes: &mut Vec<u8, A>, ty: &MemoryT
 pub fn put_table_type<A: Allocator>(bytes: &mut Vec<u8, A>, ty: &TableType)
     requires { vec_len bytes.old + 28 ≤ vec_capacity bytes.old }
     ensures items { bytes.new.items ≡ bytes.old.items ++ table_type.bytes ty.now }
-    ensures written { IsShortest table_type.Encodes table_type.bytes ty.now }
+    ensures written { IsMinimal table_type.Encodes table_type.bytes ty.now }
 {
     put_ref_type(bytes, ty.element_type);
     bytes.push_reserved(limits_byte(ty.maximum.is_some(), ty.shared, ty.table64));
@@ -329,7 +329,7 @@ pub fn put_table_type<A: Allocator>(bytes: &mut Vec<u8, A>, ty: &TableType)
 impl Encode for MemoryType {
     ghost bytes = { memory_type.bytes };
 
-    ghost IsWritten = { IsShortest memory_type.Encodes memory_type.bytes };
+    ghost IsWritten = { IsMinimal memory_type.Encodes memory_type.bytes };
 
     fn encode<A: Allocator>(&self, sink: &mut Vec<u8, A>) -> Result<(), EncodeError> {
         sink.reserve(26)?;
@@ -342,7 +342,7 @@ impl Encode for MemoryType {
 impl Encode for TableType {
     ghost bytes = { table_type.bytes };
 
-    ghost IsWritten = { IsShortest table_type.Encodes table_type.bytes };
+    ghost IsWritten = { IsMinimal table_type.Encodes table_type.bytes };
 
     fn encode<A: Allocator>(&self, sink: &mut Vec<u8, A>) -> Result<(), EncodeError> {
         sink.reserve(28)?;

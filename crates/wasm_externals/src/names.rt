@@ -1,7 +1,7 @@
 //! Names: a length in bytes, then UTF-8 text (Core 3.0, Names).
 ghost use Rattle.std.specs.Prelude.{◌≡◌, List, ℕ, IfErr, ◌++◌, true, OnOk, length, take, Some, IfSome};
 ghost use Rattle.wasm_codec.specs.Scanning.{Scans};
-ghost use Rattle.wasm_codec.specs.declared.rewriter.scan.Scanned.TheVariants.{Shortest};
+ghost use Rattle.wasm_codec.specs.declared.rewriter.scan.Scanned.TheVariants.{Minimal};
 ghost use Rattle.wasm_codec.specs.Inputs.{Passes};
 ghost use Rattle.wasm_codec.specs.Places.{Reads};
 ghost use Rattle.wasm_codec.specs.Reading.{map_ok};
@@ -9,7 +9,7 @@ ghost use Rattle.wasm_codec.specs.Rewriter.{Rewrites};
 ghost use Rattle.wasm_codec.specs.Outcomes.{IsMalformed};
 ghost use Rattle.wasm_externals.specs.formats.Names.{utf8_to_end, name};
 ghost use Rattle.std.specs.Str.{is_utf8};
-ghost use Rattle.wasm_codec.specs.Encoding.{IsCount, IsCountRefusal, IsShortest};
+ghost use Rattle.wasm_codec.specs.Encoding.{IsCount, IsCountRefusal, IsMinimal};
 ghost use Rattle.wasm_codec.specs.formats.Grammar.{IsBytes};
 
 use std::alloc::Allocator;
@@ -18,7 +18,7 @@ use wasm_codec::encode::EncodeError;
 use wasm_codec::input::Input;
 use wasm_codec::reader::cursor::{Cursor, Fault};
 use wasm_codec::reader::malformed::{Malformed, Reason};
-use wasm_codec::rewriter::Rewriter;
+use wasm_codec::rewriter::{Rewriter, are_bytes};
 use wasm_lists::encode::encode_str;
 use wasm_lists::rewriting::{RewritableBody, rewrite_sized};
 
@@ -64,7 +64,7 @@ pub fn rewrite_name(rewriter: &mut Rewriter) -> Result<(), Fault>
 /// text is ASCII.
 #[inline(always)]
 pub fn scan_name(bytes: &[u8]) -> Option<usize>
-    ensures { IfSome result (λ count. Scans name bytes.now (Some (Shortest count))) }
+    ensures { IfSome result (λ count. Scans name bytes.now (Some (Minimal count))) }
 {
     if bytes.len() == 0 {
         return None;
@@ -140,7 +140,7 @@ impl RewritableBody for Text {
 #[tactic(auto, using(crate::proofs::NameLaws::name_written), unfolding(crate::specs::formats::Names::name))]
 pub fn append_name<A: Allocator>(text: &str, sink: &mut Vec<u8, A>) -> Result<(), EncodeError>
     ensures ok { OnOk result (sink.new.items ≡ sink.old.items ++ name.bytes text.now) }
-    ensures written { OnOk result (IsShortest name.Encodes name.bytes text.now) }
+    ensures written { OnOk result (IsMinimal name.Encodes name.bytes text.now) }
     ensures can { OnOk result (IsCount (length text.now)) }
     ensures refused { IfErr result (IsCountRefusal (length text.now)) }
     ensures kept { take (length sink.old.items) sink.new.items ≡ sink.old.items }
@@ -155,8 +155,7 @@ fn are_utf8(text: &str)
     ensures utf8 { is_utf8 text.now ≡ true }
     ensures bytes { IsBytes text.now }
 {
-    // `fork` shows the proof that the items are bytes.
-    let _start = Cursor::new(text.as_bytes()).fork();
+    are_bytes(text.as_bytes());
 }
 
 /// Returns the fault that a name of `len` bytes with `behind` more bytes up to the end isn't UTF-8.

@@ -1,12 +1,12 @@
 //! The types of globals, tags and imports (Core 3.0, Types), and the kinds of exports (Export Section).
 ghost use Rattle.std.specs.Prelude.{[], ◌≡◌, false, refl, ◌++◌, ◌+◌, ◌≤◌, ◌∷◌, Some, vec_len, vec_capacity, IfSome};
 ghost use Rattle.wasm_codec.specs.Scanning.{Scans};
-ghost use Rattle.wasm_codec.specs.declared.rewriter.scan.Scanned.TheVariants.{Shortest};
+ghost use Rattle.wasm_codec.specs.declared.rewriter.scan.Scanned.TheVariants.{Minimal};
 ghost use Rattle.wasm_codec.specs.Inputs.{Takes};
 ghost use Rattle.wasm_externals.specs.formats.Externals.{global_flags, global_type, tag_type, entity_type, global_byte, export_kind};
 ghost use Rattle.wasm_externals.specs.declared.types.EntityType.TheVariants as entity_types;
 ghost use Rattle.wasm_externals.specs.declared.types.TagType.{TagType};
-ghost use Rattle.wasm_codec.specs.Encoding.{IsShortest};
+ghost use Rattle.wasm_codec.specs.Encoding.{IsMinimal};
 
 use crate::limits::{
     MemoryType, TableType, put_memory_type, put_table_type, take_memory_type, take_table_type,
@@ -238,7 +238,7 @@ pub fn read_frequent_entity_type(cursor: &mut Cursor<'_>) -> Option<EntityType>
 /// byte.
 #[inline(always)]
 pub fn scan_global_type(bytes: &[u8]) -> Option<usize>
-    ensures { IfSome result (λ count. Scans global_type bytes.now (Some (Shortest count))) }
+    ensures { IfSome result (λ count. Scans global_type bytes.now (Some (Minimal count))) }
 {
     if bytes.len() < 2 {
         return None;
@@ -256,7 +256,7 @@ pub fn scan_global_type(bytes: &[u8]) -> Option<usize>
 /// with a minimal index, or a global whose value type has one byte.
 #[inline(always)]
 pub fn scan_entity_type(bytes: &[u8]) -> Option<usize>
-    ensures { IfSome result (λ count. Scans entity_type bytes.now (Some (Shortest count))) }
+    ensures { IfSome result (λ count. Scans entity_type bytes.now (Some (Minimal count))) }
 {
     if bytes.len() == 0 {
         return None;
@@ -264,7 +264,7 @@ pub fn scan_entity_type(bytes: &[u8]) -> Option<usize>
     let rest = &bytes[1..];
     match bytes[0] {
         0x00 => match scan_u32(rest) {
-            Some(Scanned::Shortest(count)) => Some(1 + count),
+            Some(Scanned::Minimal(count)) => Some(1 + count),
             _ => None,
         },
         0x03 => {
@@ -317,7 +317,7 @@ fn mutability_byte(mutable: bool, shared: bool) -> u8
 pub fn put_global_type<A: Allocator>(bytes: &mut Vec<u8, A>, ty: GlobalType)
     requires { vec_len bytes.old + 8 ≤ vec_capacity bytes.old }
     ensures items { bytes.new.items ≡ bytes.old.items ++ global_type.bytes ty }
-    ensures written { IsShortest global_type.Encodes global_type.bytes ty }
+    ensures written { IsMinimal global_type.Encodes global_type.bytes ty }
 {
     put_val_type(bytes, ty.val_type);
     bytes.push_reserved(mutability_byte(ty.mutable, ty.shared));
@@ -328,7 +328,7 @@ pub fn put_global_type<A: Allocator>(bytes: &mut Vec<u8, A>, ty: GlobalType)
 pub(crate) fn put_tag_type<A: Allocator>(bytes: &mut Vec<u8, A>, ty: TagType)
     requires { vec_len bytes.old + 6 ≤ vec_capacity bytes.old }
     ensures items { bytes.new.items ≡ bytes.old.items ++ tag_type.bytes ty }
-    ensures written { IsShortest tag_type.Encodes tag_type.bytes ty }
+    ensures written { IsMinimal tag_type.Encodes tag_type.bytes ty }
 {
     bytes.push_reserved(0x00);
     put_u32(bytes, ty.func_type_idx);
@@ -338,7 +338,7 @@ pub(crate) fn put_tag_type<A: Allocator>(bytes: &mut Vec<u8, A>, ty: TagType)
 impl Encode for GlobalType {
     ghost bytes = { global_type.bytes };
 
-    ghost IsWritten = { IsShortest global_type.Encodes global_type.bytes };
+    ghost IsWritten = { IsMinimal global_type.Encodes global_type.bytes };
 
     fn encode<A: Allocator>(&self, sink: &mut Vec<u8, A>) -> Result<(), EncodeError> {
         sink.reserve(8)?;
@@ -351,7 +351,7 @@ impl Encode for GlobalType {
 impl Encode for TagType {
     ghost bytes = { tag_type.bytes };
 
-    ghost IsWritten = { IsShortest tag_type.Encodes tag_type.bytes };
+    ghost IsWritten = { IsMinimal tag_type.Encodes tag_type.bytes };
 
     fn encode<A: Allocator>(&self, sink: &mut Vec<u8, A>) -> Result<(), EncodeError> {
         sink.reserve(6)?;
@@ -364,7 +364,7 @@ impl Encode for TagType {
 pub fn put_entity_type<A: Allocator>(bytes: &mut Vec<u8, A>, ty: &EntityType)
     requires { vec_len bytes.old + 29 ≤ vec_capacity bytes.old }
     ensures items { bytes.new.items ≡ bytes.old.items ++ entity_type.bytes ty.now }
-    ensures written { IsShortest entity_type.Encodes entity_type.bytes ty.now }
+    ensures written { IsMinimal entity_type.Encodes entity_type.bytes ty.now }
 {
     match ty {
         EntityType::Function(index) => {
@@ -398,7 +398,7 @@ pub fn put_entity_type<A: Allocator>(bytes: &mut Vec<u8, A>, ty: &EntityType)
 impl Encode for EntityType {
     ghost bytes = { entity_type.bytes };
 
-    ghost IsWritten = { IsShortest entity_type.Encodes entity_type.bytes };
+    ghost IsWritten = { IsMinimal entity_type.Encodes entity_type.bytes };
 
     fn encode<A: Allocator>(&self, sink: &mut Vec<u8, A>) -> Result<(), EncodeError> {
         sink.reserve(29)?;

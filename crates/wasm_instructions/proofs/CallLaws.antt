@@ -13,7 +13,7 @@ use Rattle.wasm_instructions.proofs.CallRanges.{call_in_range}
 pub encoded : {T E : Type 0} (i : Instruction) (o : Operands) (r : Result T E) → o ≡ i.operands → IsCall i.op o → NumbersInRange o → OnOk r (IsCounted o × ItemsInRange o) → OnOk r (instruction.Encodes (instruction.bytes i) i)
 encoded i o (Ok v) same is_call numbers fits =
     subst (λ (k : Operands). instruction.Encodes (instruction.bytes (call i.op k)) (call i.op k)) same
-    (Lawful-instruction.shortest.encodes (call i.op o) (call_in_range i.op o is_call numbers fits.1 fits.0))
+    (Lawful-instruction.minimal.encodes (call i.op o) (call_in_range i.op o is_call numbers fits.1 fits.0))
 encoded i o (Err e) same is_call numbers fits = tt
 
 -- how long the bytes of a call without a long list are

@@ -3,7 +3,7 @@
 use Rattle.std.proofs.Common.{ne_eqb, arith, ℕ, Bool, true, false, List, [], ◌∷◌, Option, Result, Ok, Err, OnOk, refl, subst}
 use Rattle.wasm_types.specs.formats.Types.{val_type}
 use Rattle.wasm_types.proofs.WrittenTypes.{heap_in_range, val_in_range}
-use Rattle.wasm_codec.specs.Encoding.{IsShortest}
+use Rattle.wasm_codec.specs.Encoding.{IsMinimal}
 use Rattle.wasm_codec.proofs.NumberLaws.{written}
 use Rattle.wasm_instructions.specs.declared.operands.control.BlockType.{BlockType}
 use Rattle.wasm_instructions.specs.declared.operands.control.BlockType.TheVariants as blocks
@@ -105,7 +105,7 @@ unfolding instruction
 call_in_range op o is fits in_lists counted = ((opcode_in_range op (in_table_short op (kind_of o) is), rw is (operands_in_range o fits in_lists counted)), refl)
 
 pub is_call : (op : Opcode) (o : Operands) → instruction.InRange (call op o) → IsCall op o
-is_call op o fits = encodes_call (instruction.bytes (call op o)) (call op o) (Lawful-instruction.shortest.encodes (call op o) fits)
+is_call op o fits = encodes_call (instruction.bytes (call op o)) (call op o) (Lawful-instruction.minimal.encodes (call op o) fits)
 
 lists_counted : (o : Operands) → (operands_format (kind_of o)).InRange o → IsCounted o
 unfolding operands_format
@@ -121,23 +121,23 @@ pub is_counted : (i : Instruction) → instruction.InRange i → IsCounted i.ope
 unfolding instruction
 is_counted i fits = lists_counted i.operands (subst (λ (k : Option Kind). (by_kind operands_format k).InRange i.operands) (is_call i.op i.operands fits) fits.0.1)
 
--- ---- what is written is the shortest encoding
+-- ---- what is written is the minimal encoding
 
-pub block_written : (ty : BlockType) → BlockTypeFits ty → IsShortest block_type.Encodes block_type.bytes ty
-block_written ty fits = written Lawful-block-type.shortest ty (block_in_range ty fits)
+pub block_written : (ty : BlockType) → BlockTypeFits ty → IsMinimal block_type.Encodes block_type.bytes ty
+block_written ty fits = written Lawful-block-type.minimal ty (block_in_range ty fits)
 
-pub mem_arg_written : (arg : MemArg) → MemArgInRange arg → IsShortest mem_arg.Encodes mem_arg.bytes arg
-mem_arg_written arg fits = written Lawful-mem-arg.shortest arg (mem_arg_in_range arg fits)
+pub mem_arg_written : (arg : MemArg) → MemArgInRange arg → IsMinimal mem_arg.Encodes mem_arg.bytes arg
+mem_arg_written arg fits = written Lawful-mem-arg.minimal arg (mem_arg_in_range arg fits)
 
-pub catch_written : (c : Catch) → CatchFits c → IsShortest catch_clause.Encodes catch_clause.bytes c
-catch_written c fits = written Lawful-catch.shortest c (catch_in_range c fits)
+pub catch_written : (c : Catch) → CatchFits c → IsMinimal catch_clause.Encodes catch_clause.bytes c
+catch_written c fits = written Lawful-catch.minimal c (catch_in_range c fits)
 
-pub handle_written : (h : Handle) → HandleFits h → IsShortest handle_clause.Encodes handle_clause.bytes h
-handle_written h fits = written Lawful-handle.shortest h (handle_in_range h fits)
+pub handle_written : (h : Handle) → HandleFits h → IsMinimal handle_clause.Encodes handle_clause.bytes h
+handle_written h fits = written Lawful-handle.minimal h (handle_in_range h fits)
 
-pub ordering_written : (o : Ordering) → IsShortest ordering.Encodes ordering.bytes o
-ordering_written o = written Lawful-ordering.shortest o (ordering_in_range o)
+pub ordering_written : (o : Ordering) → IsMinimal ordering.Encodes ordering.bytes o
+ordering_written o = written Lawful-ordering.minimal o (ordering_in_range o)
 
-pub call_written : {T E : Type 0} (r : Result T E) (c : Instruction) → OnOk r (instruction.Encodes (instruction.bytes c) c) → OnOk r (IsShortest instruction.Encodes instruction.bytes c)
+pub call_written : {T E : Type 0} (r : Result T E) (c : Instruction) → OnOk r (instruction.Encodes (instruction.bytes c) c) → OnOk r (IsMinimal instruction.Encodes instruction.bytes c)
 call_written (Err e) c g = tt
-call_written (Ok x) c g = record { encodes = g; least = λ bytes other. Lawful-instruction.shortest.least bytes c other }
+call_written (Ok x) c g = record { encodes = g; least = λ bytes other. Lawful-instruction.minimal.least bytes c other }

@@ -1,13 +1,13 @@
--- How long shortest encodings are at the most.
+-- How long minimal encodings are at the most.
 use Rattle.std.proofs.Common.{◌≡◌, ℕ, zero, suc, ◌+◌, ◌*◌, ◌/◌, ◌^◌, ◌<◌, ◌≤◌, Bool, true, false, cond, List, [], ◌∷◌, length, Option, Some, None, refl, length-append, arith}
 use Rattle.std.specs.Prelude.{IsSomeAnd}
 use Rattle.wasm_codec.specs.formats.Numbers.{EncodesU32, EncodesU64, EncodesS32, EncodesS64, EncodesIndex}
 use Rattle.wasm_codec.specs.Leb128.{unsigned_leb128}
 use Rattle.wasm_codec.proofs.Digits.{length-digits_of}
 use Rattle.wasm_codec.specs.formats.Combinators.{Format, a_byte, nothing, ◌⊗◌, bytes_of, made, either_range, Choice, any_of, or_else, either, after, after_long, one_byte, u32, u64, s32, s64, index, raw, little_endian}
-use Rattle.wasm_codec.proofs.NumberLaws.{Shortest-u32, Shortest-u64, Shortest-s32, Shortest-s64, Shortest-index}
+use Rattle.wasm_codec.proofs.NumberLaws.{WritesMinimally-u32, WritesMinimally-u64, WritesMinimally-s32, WritesMinimally-s64, WritesMinimally-index}
 
--- the shortest encoding of a value in range has at most so many bytes
+-- the minimal encoding of a value in range has at most so many bytes
 pub record AtMost {V : Type 0} (most : ℕ) (F : Format V) : Type 0 where
   pub bound : (v : V) → F.InRange v → length (F.bytes v) ≤ most
 
@@ -34,23 +34,23 @@ AtMost-raw count = record { bound = λ v fits. omega (arith, fits.0) }
 
 pub AtMost-u32 : AtMost 5 u32
 unfolding EncodesU32
-AtMost-u32 = record { bound = λ n lt. (Shortest-u32.encodes n lt).1 }
+AtMost-u32 = record { bound = λ n lt. (WritesMinimally-u32.encodes n lt).1 }
 
 pub AtMost-u64 : AtMost 10 u64
 unfolding EncodesU64
-AtMost-u64 = record { bound = λ n lt. (Shortest-u64.encodes n lt).1 }
+AtMost-u64 = record { bound = λ n lt. (WritesMinimally-u64.encodes n lt).1 }
 
 pub AtMost-s32 : AtMost 5 s32
 unfolding EncodesS32
-AtMost-s32 = record { bound = λ z within. (Shortest-s32.encodes z within).1 }
+AtMost-s32 = record { bound = λ z within. (WritesMinimally-s32.encodes z within).1 }
 
 pub AtMost-s64 : AtMost 10 s64
 unfolding EncodesS64
-AtMost-s64 = record { bound = λ z within. (Shortest-s64.encodes z within).1 }
+AtMost-s64 = record { bound = λ z within. (WritesMinimally-s64.encodes z within).1 }
 
 pub AtMost-index : AtMost 5 index
 unfolding EncodesIndex
-AtMost-index = record { bound = λ n lt. (Shortest-index.encodes n lt).1 }
+AtMost-index = record { bound = λ n lt. (WritesMinimally-index.encodes n lt).1 }
 
 -- a number of 7 bits, or 14, ..
 pub length-number : (more n : ℕ) → n < 128 * 128 ^ more → length (unsigned_leb128 n) ≤ suc more

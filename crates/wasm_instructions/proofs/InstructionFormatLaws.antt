@@ -6,9 +6,9 @@ use Rattle.wasm_instructions.specs.declared.table.opcode.Kind.{Kind}
 use Rattle.wasm_instructions.specs.declared.table.opcode.Kind.TheVariants as kinds
 use Rattle.wasm_instructions.specs.declared.table.call.Operands.{Operands}
 use Rattle.wasm_instructions.specs.declared.table.call.Operands.TheVariants as operands
-use Rattle.wasm_codec.proofs.Joining.{Joined-more, Shortest-joined}
+use Rattle.wasm_codec.proofs.Joining.{Joined-more, WritesMinimally-joined}
 use Rattle.wasm_codec.specs.formats.Grammar.{TakesBytes}
-use Rattle.wasm_codec.specs.Encoding.{IsShortestOrLonger}
+use Rattle.wasm_codec.specs.Encoding.{IsMinimalOrLonger}
 use Rattle.wasm_codec.specs.Places.{place, keeps}
 use Rattle.wasm_codec.specs.formats.Combinators.{Format, by_kind}
 use Rattle.wasm_codec.proofs.FormatLaws.{Every-made, Every-after, Every-either, Lawful-byte, Lawful-nothing, Lawful-made, Lawful-then, Lawful-both, Lawful-items, Lawful-by-kind, Lawful-variant-after, Lawful-or-else, Lawful-u32, Lawful-s32, takes_bytes}
@@ -21,9 +21,9 @@ use Rattle.wasm_instructions.specs.formats.Instructions.{Instruction}
 use Rattle.wasm_instructions.specs.formats.Opcodes.{without_prefix, after_fb, after_fc, after_fd, after_fe}
 use Rattle.wasm_instructions.specs.Instructions.{kind_of, IsCall}
 use Rattle.wasm_instructions.specs.OperandParts.{fb_part, fc_part, fd_part, fe_part, one_byte_part, block_part, index_part, two_indexes_part, br_table_part, types_part, try_table_part, mem_part, i32_part, i64_part, f32_part, f64_part, heap_part, resume_part, resume_throw_part, cast_part, v128_part, shuffle_part, lane_part, mem_lane_part, order_part, order_index_part, order_two_indexes_part}
-use Rattle.wasm_instructions.specs.formats.Instructions.{is_one_byte, opcode, cast_of, operands_format, instruction_of, call_bytes, with_bytes, instruction, Instructions, instructions_bytes, ShortestInstructions}
+use Rattle.wasm_instructions.specs.formats.Instructions.{is_one_byte, opcode, cast_of, operands_format, instruction_of, call_bytes, with_bytes, instruction, Instructions, instructions_bytes, MinimalInstructions}
 use Rattle.wasm_instructions.proofs.OperandFormatLaws.{Lawful-block-type, Lawful-catch, Lawful-handle, Lawful-castop, Lawful-mem-arg, Lawful-ordering, Lawful-vector, Lawful-lanes}
-use Rattle.wasm_codec.specs.Lawful.{Shortest, IsLawful}
+use Rattle.wasm_codec.specs.Lawful.{WritesMinimally, IsLawful}
 
 -- ---- opcodes
 
@@ -76,7 +76,7 @@ has_kind kinds.None back o g = sym (ap kind_of g.1)
 has_kind k back o g = sym (ap kind_of g.2)
 
 kind_in_range : (k : Kind) (o : Operands) → (operands_format k).InRange o → kind_of o ≡ k
-kind_in_range k o fits = has_kind k ((operands_format k).bytes o) o ((Lawful-operands k).shortest.encodes o fits)
+kind_in_range k o fits = has_kind k ((operands_format k).bytes o) o ((Lawful-operands k).minimal.encodes o fits)
 
 Lawful-written : {A : Type 0} (bytes : A → List ℕ) {F : Format A} → ((v : A) → F.InRange v → F.bytes v ≡ bytes v) → IsLawful F → IsLawful (with_bytes bytes F)
 Lawful-written {A} bytes {F} same r = record {
@@ -84,10 +84,10 @@ Lawful-written {A} bytes {F} same r = record {
     sound = r.reads.sound;
     complete = λ prefix v rest s g. r.reads.complete prefix v rest s g ∙ ap (λ (t : List ℕ). Some (v, place (keeps s prefix t) rest)) (same v (r.in_range prefix v g));
   };
-  shortest = record {
-    encodes = λ v fits. subst (λ (t : List ℕ). F.Encodes t v) (same v fits) (r.shortest.encodes v fits);
-    again = λ prefix v g. subst (λ (t : List ℕ). F.Encodes t v) (same v (r.in_range prefix v g)) (r.shortest.again prefix v g);
-    least = λ prefix v g. subst (IsShortestOrLonger prefix) (same v (r.in_range prefix v g)) (r.shortest.least prefix v g);
+  minimal = record {
+    encodes = λ v fits. subst (λ (t : List ℕ). F.Encodes t v) (same v fits) (r.minimal.encodes v fits);
+    again = λ prefix v g. subst (λ (t : List ℕ). F.Encodes t v) (same v (r.in_range prefix v g)) (r.minimal.again prefix v g);
+    least = λ prefix v g. subst (IsMinimalOrLonger prefix) (same v (r.in_range prefix v g)) (r.minimal.least prefix v g);
   };
   in_range = r.in_range;
   are_bytes = r.are_bytes;
@@ -117,12 +117,12 @@ encodes_call bytes i g = subst (λ (i : Instruction). IsCall i.op i.operands) g.
 
 -- ---- instructions to the end
 
-pub Shortest-instructions : Shortest Instructions (AllByRecursion instruction.InRange) instructions_bytes
-Shortest-instructions = Shortest-joined Lawful-instruction.shortest
+pub WritesMinimally-instructions : WritesMinimally Instructions (AllByRecursion instruction.InRange) instructions_bytes
+WritesMinimally-instructions = WritesMinimally-joined Lawful-instruction.minimal
 
--- instructions in their shortest encodings are the shortest encoding of their list
-pub are_shortest : (bytes : List ℕ) (calls : List Instruction) → ShortestInstructions bytes calls ↔ (Instructions bytes calls × (bytes ≡ instructions_bytes calls))
-are_shortest = joined_minimal_only Lawful-instruction
+-- instructions in their minimal encodings are the minimal encoding of their list
+pub are_minimal : (bytes : List ℕ) (calls : List Instruction) → MinimalInstructions bytes calls ↔ (Instructions bytes calls × (bytes ≡ instructions_bytes calls))
+are_minimal = joined_minimal_only Lawful-instruction
 
 -- one instruction more at the end
 pub record More (calls : List Instruction) (i : ℕ) (old new : List ℕ) : Type 0 where

@@ -1,4 +1,4 @@
--- How long the shortest encodings of instructions are at the most.
+-- How long the minimal encodings of instructions are at the most.
 use Rattle.std.proofs.Common.{◌≡◌, ℕ, ◌+◌, ◌*◌, ◌^◌, ◌<◌, ◌≤◌, suc, Bool, true, false, not, ◌&&◌, cond, eqb, List, [], ◌∷◌, ◌++◌, length, Some, refl, ap, length-append, append-nil, arith}
 use Rattle.std.specs.Prelude.{is_some}
 use Rattle.wasm_types.specs.declared.types.heap.HeapType.TheVariants.{Concrete, Exact}

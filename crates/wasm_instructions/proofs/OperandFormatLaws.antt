@@ -11,9 +11,9 @@ use Rattle.wasm_instructions.specs.declared.operands.memory.Ordering.TheVariants
 use Rattle.wasm_codec.specs.formats.Grammar.{Grammar, TakesBytes, Then, Mapped, Never, Either}
 use Rattle.wasm_codec.specs.formats.Numbers.{EncodesU32, EncodesU64}
 use Rattle.wasm_codec.specs.Leb128.{digits_of, unsigned_leb128}
-use Rattle.wasm_codec.specs.Encoding.{IsShortestOrLonger}
+use Rattle.wasm_codec.specs.Encoding.{IsMinimalOrLonger}
 use Rattle.wasm_codec.proofs.Laws.{least_then}
-use Rattle.wasm_codec.proofs.NumberLaws.{Shortest-u32, Shortest-u64}
+use Rattle.wasm_codec.proofs.NumberLaws.{WritesMinimally-u32, WritesMinimally-u64}
 use Rattle.wasm_codec.specs.formats.Combinators.{◌⊗◌, ◌⊗>◌, made, choose, never, u32, u64}
 use Rattle.wasm_codec.proofs.FormatLaws.{IsShorter, IsFound, Every-made, Lawful-made, Lawful-made-as, Lawful-then, Lawful-both, Lawful-choose, Lawful-never, Lawful-one-byte, Lawful-byte-or, Lawful-variant, Lawful-or-else, Every-either, Tagged-or, Tagged-never, Lawful-u32, Lawful-u64, Lawful-index, takes_bytes}
 use Rattle.wasm_codec.proofs.RawFormatLaws.{Lawful-raw, Lawful-little-endian}
@@ -21,7 +21,7 @@ use Rattle.wasm_types.specs.formats.Types.{abstract_type, ref_type, val_type}
 use Rattle.wasm_types.proofs.TypeFormatLaws.{Lawful-val-type}
 use Rattle.wasm_instructions.specs.formats.Operands.{empty_byte, block_type, catch_clause, handle_clause, nullables_byte, castop, in_first, in_memory, after_alignment, mem_arg, ordering_byte, ordering, from_halves, vector, lanes}
 use Rattle.wasm_instructions.specs.OperandParts.{function_type_part, result_part, catch_byte, tag_and_label, label_alone, handle_byte, on_label_part, on_switch_part, all_nullables, mem_arg_bytes, MemArgInRange, is_named_first, halves_part}
-use Rattle.wasm_codec.specs.Lawful.{Shortest, IsLawful}
+use Rattle.wasm_codec.specs.Lawful.{WritesMinimally, IsLawful}
 
 -- ---- block types
 
@@ -121,7 +121,7 @@ pub one_digit : (n : ℕ) → n < 128 → unsigned_leb128 n ≡ n ∷ []
 unfolding unsigned_leb128 digits_of
 one_digit n lt = rw (lt-ltb n 128 lt) refl
 
--- ---- the shortest encoding of a memory argument
+-- ---- the minimal encoding of a memory argument
 
 -- a memory argument is its parts
 parts_are : (arg : MemArg) (align memory : ℕ) → align ≡ arg.align → memory ≡ arg.memory_index → in_memory align (memory, arg.offset) ≡ arg
@@ -133,34 +133,34 @@ mem_arg_encodes arg fits = by (eqb arg.memory_index 0) refl where
   align = fits.align
 
   first : eqb arg.memory_index 0 ≡ true → AfterEncodes arg.align (unsigned_leb128 arg.offset) arg
-  first is = rw (lt-ltb arg.align 64 align) (arg.offset, Shortest-u64.encodes arg.offset fits.offset, parts_are arg arg.align 0 refl (sym (eqb-true arg.memory_index 0 is)))
+  first is = rw (lt-ltb arg.align 64 align) (arg.offset, WritesMinimally-u64.encodes arg.offset fits.offset, parts_are arg arg.align 0 refl (sym (eqb-true arg.memory_index 0 is)))
 
   named : AfterEncodes (arg.align + 64) (unsigned_leb128 arg.memory_index ++ unsigned_leb128 arg.offset) arg
   named =
       let same : arg.align + 64 - 64 ≡ arg.align = omega arith in
       rw (le-ltb (arg.align + 64) 64 (omega arith), lt-ltb (arg.align + 64) 128 (omega arith))
-      ((arg.memory_index, arg.offset), (unsigned_leb128 arg.memory_index, unsigned_leb128 arg.offset, refl, Shortest-u32.encodes arg.memory_index fits.memory_index, Shortest-u64.encodes arg.offset fits.offset), parts_are arg (arg.align + 64 - 64) arg.memory_index same refl)
+      ((arg.memory_index, arg.offset), (unsigned_leb128 arg.memory_index, unsigned_leb128 arg.offset, refl, WritesMinimally-u32.encodes arg.memory_index fits.memory_index, WritesMinimally-u64.encodes arg.offset fits.offset), parts_are arg (arg.align + 64 - 64) arg.memory_index same refl)
 
   by : (test : Bool) → eqb arg.memory_index 0 ≡ test → Mapped (λ (p : ℕ × MemArg). p.1) (Then EncodesU32 AfterEncodes) (cond test (unsigned_leb128 arg.align ++ unsigned_leb128 arg.offset) (unsigned_leb128 (arg.align + 64) ++ (unsigned_leb128 arg.memory_index ++ unsigned_leb128 arg.offset))) arg
-  by true is = ((arg.align, arg), (unsigned_leb128 arg.align, unsigned_leb128 arg.offset, refl, Shortest-u32.encodes arg.align (omega arith), first is), refl)
-  by false not = ((arg.align + 64, arg), (unsigned_leb128 (arg.align + 64), unsigned_leb128 arg.memory_index ++ unsigned_leb128 arg.offset, refl, Shortest-u32.encodes (arg.align + 64) (omega arith), named), refl)
+  by true is = ((arg.align, arg), (unsigned_leb128 arg.align, unsigned_leb128 arg.offset, refl, WritesMinimally-u32.encodes arg.align (omega arith), first is), refl)
+  by false not = ((arg.align + 64, arg), (unsigned_leb128 (arg.align + 64), unsigned_leb128 arg.memory_index ++ unsigned_leb128 arg.offset, refl, WritesMinimally-u32.encodes (arg.align + 64) (omega arith), named), refl)
 
 -- ---- every encoding of a memory argument
 
 abbrev IsMemArg : List ℕ → MemArg → Type 0
-IsMemArg bytes arg = MemArgInRange arg × IsShortestOrLonger bytes (mem_arg_bytes arg)
+IsMemArg bytes arg = MemArgInRange arg × IsMinimalOrLonger bytes (mem_arg_bytes arg)
 
 in_first_is : (bytes prefix back : List ℕ) (n offset : ℕ) → bytes ≡ prefix ++ back → EncodesU32 prefix n → n < 64 → EncodesU64 back offset → IsMemArg bytes (in_first n offset)
 in_first_is bytes prefix back n offset e g lt h =
-    (record { align = lt; memory_index = omega arith; offset = u64_in_range back offset h }, least_then bytes prefix back (unsigned_leb128 n) (unsigned_leb128 offset) e (Shortest-u32.least prefix n g) (Shortest-u64.least back offset h))
+    (record { align = lt; memory_index = omega arith; offset = u64_in_range back offset h }, least_then bytes prefix back (unsigned_leb128 n) (unsigned_leb128 offset) e (WritesMinimally-u32.least prefix n g) (WritesMinimally-u64.least back offset h))
 
 -- memory 0 with its index is longer
-named_first : (bytes prefix mid back : List ℕ) (n offset : ℕ) → bytes ≡ prefix ++ (mid ++ back) → EncodesU32 prefix n → 64 ≤ n → n < 128 → EncodesU32 mid 0 → EncodesU64 back offset → IsShortestOrLonger bytes (unsigned_leb128 (n - 64) ++ unsigned_leb128 offset)
+named_first : (bytes prefix mid back : List ℕ) (n offset : ℕ) → bytes ≡ prefix ++ (mid ++ back) → EncodesU32 prefix n → 64 ≤ n → n < 128 → EncodesU32 mid 0 → EncodesU64 back offset → IsMinimalOrLonger bytes (unsigned_leb128 (n - 64) ++ unsigned_leb128 offset)
 named_first bytes prefix mid back n offset e g le lt h o =
     let one : length (unsigned_leb128 (n - 64)) ≡ 1 = ap (length {A = ℕ}) (one_digit (n - 64) (omega arith)) in
-    inr (rw e (at_least (length back) (length (unsigned_leb128 offset)) one (shorter back (unsigned_leb128 offset) (Shortest-u64.least back offset o))))
+    inr (rw e (at_least (length back) (length (unsigned_leb128 offset)) one (shorter back (unsigned_leb128 offset) (WritesMinimally-u64.least back offset o))))
   where
-    shorter : (b t : List ℕ) → IsShortestOrLonger b t → length t ≤ length b
+    shorter : (b t : List ℕ) → IsMinimalOrLonger b t → length t ≤ length b
     shorter b t (inl p) = omega (arith, ap (length {A = ℕ}) p)
     shorter b t (inr p) = omega arith
 
@@ -177,11 +177,11 @@ in_memory_is bytes prefix back mid last n memory offset e f g le lt h o =
     whole : bytes ≡ prefix ++ (mid ++ last)
     whole = e ∙ ap (λ (t : List ℕ). prefix ++ t) f
 
-    by : (test : Bool) → eqb memory 0 ≡ test → IsShortestOrLonger bytes (cond test (unsigned_leb128 (n - 64) ++ unsigned_leb128 offset) (unsigned_leb128 (n - 64 + 64) ++ (unsigned_leb128 memory ++ unsigned_leb128 offset)))
+    by : (test : Bool) → eqb memory 0 ≡ test → IsMinimalOrLonger bytes (cond test (unsigned_leb128 (n - 64) ++ unsigned_leb128 offset) (unsigned_leb128 (n - 64 + 64) ++ (unsigned_leb128 memory ++ unsigned_leb128 offset)))
     by true is = named_first bytes prefix mid last n offset whole g le lt (subst (λ (m : ℕ). EncodesU32 mid m) (eqb-true memory 0 is) h) o
-    by false not = subst (λ (m : ℕ). IsShortestOrLonger bytes (unsigned_leb128 m ++ (unsigned_leb128 memory ++ unsigned_leb128 offset))) (sym same)
-        (least_then bytes prefix (mid ++ last) (unsigned_leb128 n) (unsigned_leb128 memory ++ unsigned_leb128 offset) whole (Shortest-u32.least prefix n g)
-        (least_then (mid ++ last) mid last (unsigned_leb128 memory) (unsigned_leb128 offset) refl (Shortest-u32.least mid memory h) (Shortest-u64.least last offset o)))
+    by false not = subst (λ (m : ℕ). IsMinimalOrLonger bytes (unsigned_leb128 m ++ (unsigned_leb128 memory ++ unsigned_leb128 offset))) (sym same)
+        (least_then bytes prefix (mid ++ last) (unsigned_leb128 n) (unsigned_leb128 memory ++ unsigned_leb128 offset) whole (WritesMinimally-u32.least prefix n g)
+        (least_then (mid ++ last) mid last (unsigned_leb128 memory) (unsigned_leb128 offset) refl (WritesMinimally-u32.least mid memory h) (WritesMinimally-u64.least last offset o)))
 
 mem_arg_is : (bytes : List ℕ) (arg : MemArg) → MemArgEncodes bytes arg → IsMemArg bytes arg
 mem_arg_is bytes arg g = subst (IsMemArg bytes) g.2 (by (ltb g.0.0 64) refl (ltb g.0.0 128) refl g.1.4) where
@@ -191,8 +191,8 @@ mem_arg_is bytes arg g = subst (IsMemArg bytes) g.2 (by (ltb g.0.0 64) refl (ltb
   by false high true low h = subst (IsMemArg bytes) h.2 (in_memory_is bytes g.1.0 g.1.1 h.1.0 h.1.1 g.0.0 h.0.0 h.0.1 g.1.2 h.1.2 g.1.3 (ltb-false _ _ high) (ltb-true _ _ low) h.1.3 h.1.4)
   by false high false higher h = absurd h
 
-pub Shortest-mem-arg : Shortest MemArgEncodes MemArgInRange mem_arg_bytes
-Shortest-mem-arg = record {
+pub WritesMinimally-mem-arg : WritesMinimally MemArgEncodes MemArgInRange mem_arg_bytes
+WritesMinimally-mem-arg = record {
   encodes = mem_arg_encodes;
   again = λ bytes arg g. mem_arg_encodes arg (mem_arg_is bytes arg g).0;
   least = λ bytes arg g. (mem_arg_is bytes arg g).1;
@@ -229,7 +229,7 @@ named_is_longer prefix p g = by (ltb p.0 64) refl (ltb p.0 128) refl g.4 where
 
 pub Lawful-mem-arg : IsLawful mem_arg
 unfolding mem_arg
-Lawful-mem-arg = Lawful-made-as is_named_first (λ p. p.1) mem_arg_bytes MemArgInRange (Lawful-then Lawful-u32 Lawful-after-alignment) Shortest-mem-arg (λ bytes arg g. (mem_arg_is bytes arg g).0) named_is_longer
+Lawful-mem-arg = Lawful-made-as is_named_first (λ p. p.1) mem_arg_bytes MemArgInRange (Lawful-then Lawful-u32 Lawful-after-alignment) WritesMinimally-mem-arg (λ bytes arg g. (mem_arg_is bytes arg g).0) named_is_longer
 
 -- the laws of operands that are items of lists, for functions that name them
 pub ruleset item_laws = (Lawful-catch, catch_takes, Lawful-handle, handle_takes)

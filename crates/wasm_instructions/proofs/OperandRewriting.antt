@@ -32,7 +32,7 @@ named old first memory offset align index high low zero e f g =
     let o = is_after u64 memory offset g in
     record {
       value = o.value;
-      is_read = rw (a.is_read, le-ltb align 64 high, lt-ltb align 128 low, m.is_read, o.given.is_read, zero, le-ltb align 64 high) (ap (λ (s : Bool). Some (in_memory (align - 64) (0, o.value), place s offset.place.left)) (and-false offset.place.shortest));
+      is_read = rw (a.is_read, le-ltb align 64 high, lt-ltb align 128 low, m.is_read, o.given.is_read, zero, le-ltb align 64 high) (ap (λ (s : Bool). Some (in_memory (align - 64) (0, o.value), place s offset.place.left)) (and-false offset.place.minimal));
       written = o.given.written ∙ ap (λ (t : List ℕ). t ++ unsigned_leb128 o.value) (m.written ∙ ap (λ (t : List ℕ). t ++ unsigned_leb128 index) a.written)
           ∙ rw (one_digit align low, zero, one_digit 0 (omega arith)) (regroup old.done (align ∷ []) (0 ∷ []) (unsigned_leb128 o.value));
       rest = o.given.rest ∙ m.rest ∙ a.rest;
@@ -72,7 +72,7 @@ named_read : (old first memory offset : Place) (align index value : ℕ) → 64 
     → mem_arg.at old ≡ Some (in_memory (align - 64) (index, value), place false offset.left)
 unfolding mem_arg
 named_read old first memory offset align index value high low zero a m o =
-    rw (a, le-ltb align 64 high, lt-ltb align 128 low, m, o, zero, le-ltb align 64 high) (ap (λ (s : Bool). Some (in_memory (align - 64) (0, value), place s offset.left)) (and-false offset.shortest))
+    rw (a, le-ltb align 64 high, lt-ltb align 128 low, m, o, zero, le-ltb align 64 high) (ap (λ (s : Bool). Some (in_memory (align - 64) (0, value), place s offset.left)) (and-false offset.minimal))
 
 -- the index of memory 0 is left out
 pub named_taken : (writes : Bool) (old first memory offset cut new : Rewriting) (align index value mark : ℕ) → 64 ≤ align → align < 128 → index ≡ 0 → mark ≡ length old.done → Took writes u32 old first align → Took writes u32 first memory index → Took writes u64 memory offset value

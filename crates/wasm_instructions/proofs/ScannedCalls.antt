@@ -1,4 +1,4 @@
--- Instructions that are seen at once to be in their shortest encodings.
+-- Instructions that are seen at once to be in their minimal encodings.
 use Rattle.std.proofs.Common.{◌≡◌, ℕ, zero, suc, ◌+◌, ◌-◌, ◌<◌, ◌≤◌, Bool, true, false, List, [], ◌∷◌, ◌++◌, length, get_or, take, take_all, drop, length-drop, not, ◌&&◌, Option, Some, None, refl, sym, ap, subst, ◌∙◌, arith}
 use Rattle.std.proofs.Math.Bool.{and-true}
 use Rattle.std.proofs.lemmas.Bool.{lt-ltb, ne_eqb}
@@ -30,12 +30,12 @@ use Rattle.wasm_instructions.specs.formats.Operands.{block_type, in_memory, mem_
 
 pub made_scanned : {A B : Type 0} (make : A → B) (parts : B → Option A) (F : Format A) → ((a : A) → parts (make a) ≡ Some a) → (bytes : List ℕ) (r : Option Scanned) → Scans F bytes r → Scans (made make parts F) bytes r
 made_scanned make parts F back bytes None b = tt
-made_scanned make parts F back bytes (Some (scanned.Shortest count)) (le, x) = (le, (make x.0, rw x.1 refl))
+made_scanned make parts F back bytes (Some (scanned.Minimal count)) (le, x) = (le, (make x.0, rw x.1 refl))
 made_scanned make parts F back bytes (Some (scanned.Padded signed start more)) (le, told) =
-    (le, λ kept k. let p = told kept k in record { value = make p.value; read = rw p.read refl; shortest = rw (back p.value) p.shortest })
+    (le, λ kept k. let p = told kept k in record { value = make p.value; read = rw p.read refl; minimal = rw (back p.value) p.minimal })
 
 -- the operands of the most frequent kinds
-pub none_scanned : (bytes : List ℕ) → Scans (operands_format kinds.None) bytes (Some (scanned.Shortest 0))
+pub none_scanned : (bytes : List ℕ) → Scans (operands_format kinds.None) bytes (Some (scanned.Minimal 0))
 unfolding operands_format
 none_scanned bytes = (omega arith, (operands.None, refl))
 
@@ -51,7 +51,7 @@ number_read (suc more) (b ∷ bytes) le =
     let n = number_read more bytes (omega arith) in
     (with_low (b, n.0), rw n.1 refl)
 
-pub number_scanned : (count : ℕ) (bytes : List ℕ) → count ≤ length bytes → Scans (little_endian count) bytes (Some (scanned.Shortest count))
+pub number_scanned : (count : ℕ) (bytes : List ℕ) → count ≤ length bytes → Scans (little_endian count) bytes (Some (scanned.Minimal count))
 number_scanned count bytes le = (le, number_read count bytes le)
 
 pub one_byte : (b : ℕ) (bytes : List ℕ) (s : Bool) → b < 0xfb → opcode.at (place s (b ∷ bytes)) ≡ Some (without_prefix b, place s bytes)
@@ -64,7 +64,7 @@ pub behind_first : {V : Type 0} (F : Format V) (bytes : List ℕ) (s : Scanned) 
 behind_first F bytes s r = subst (λ (l : List ℕ). Scans F l (Some s)) (take_all (length bytes - 1) (drop 1 bytes) (omega (arith, length-drop 1 bytes))) r
 
 pub is_within : (s : Scanned) (n most : ℕ) → n ≤ most → IsWithin s n → IsWithin s most
-is_within (scanned.Shortest count) n most le w = omega (arith, le, w)
+is_within (scanned.Minimal count) n most le w = omega (arith, le, w)
 is_within (scanned.Padded signed start more) n most le w = (w.0, omega (arith, le, w.1))
 
 -- what is told of bytes is told of them behind one more
@@ -78,7 +78,7 @@ cut_behind b (suc kept) bytes some =
     rw n refl
 
 behind : {V W : Type 0} (F : Format V) (G : Format W) (b : ℕ) (bytes : List ℕ) → Behind F G b bytes → (s : Scanned) → Scans F bytes (Some s) → Scans G (b ∷ bytes) (Some (behind_byte s))
-behind F G b bytes reads (scanned.Shortest count) (le, x) =
+behind F G b bytes reads (scanned.Minimal count) (le, x) =
     let n : 1 + count ≡ suc count = omega arith in
     let w = reads x.0 true (drop count bytes) x.1 in
     (omega (arith, le), (w.0, rw n w.1.0))
@@ -90,7 +90,7 @@ behind F G b bytes reads (scanned.Padded signed start more) (le, told) =
           let p = told kept (rw n at k) in
           let w = reads p.value false (drop (start + more + 1) bytes) p.read in
           let all : 1 + start + kept ≡ 1 + (start + kept) = omega arith in
-          record { value = w.0; read = rw end w.1.0; shortest = ap (λ (i : ℕ). cut i (b ∷ bytes)) all ∙ cut_behind b (start + kept) bytes (omega (arith, k.some)) ∙ ap (λ (t : List ℕ). b ∷ t) p.shortest ∙ sym w.1.1 },
+          record { value = w.0; read = rw end w.1.0; minimal = ap (λ (i : ℕ). cut i (b ∷ bytes)) all ∙ cut_behind b (start + kept) bytes (omega (arith, k.some)) ∙ ap (λ (t : List ℕ). b ∷ t) p.minimal ∙ sym w.1.1 },
     )
 
 -- a byte that is an opcode is no prefix
@@ -116,12 +116,12 @@ variable_kind (suc (suc (suc (suc (suc zero))))) lt = refl
 variable_kind (suc (suc (suc (suc (suc (suc zero)))))) lt = refl
 variable_kind (suc (suc (suc (suc (suc (suc (suc i))))))) lt = absurd (omega arith)
 
-pub variable_scanned : (bytes : List ℕ) (count : ℕ) → 0 < length bytes → 0x20 ≤ get_or bytes 0 0 → get_or bytes 0 0 ≤ 0x26 → Scans u32 (take (length bytes - 1) (drop 1 bytes)) (Some (scanned.Shortest count)) → Scans instruction bytes (Some (scanned.Shortest (1 + count)))
+pub variable_scanned : (bytes : List ℕ) (count : ℕ) → 0 < length bytes → 0x20 ≤ get_or bytes 0 0 → get_or bytes 0 0 ≤ 0x26 → Scans u32 (take (length bytes - 1) (drop 1 bytes)) (Some (scanned.Minimal count)) → Scans instruction bytes (Some (scanned.Minimal (1 + count)))
 variable_scanned bytes count some from to r =
     let b = get_or bytes 0 0 in
     let at : 0x20 + (b - 0x20) ≡ b = omega (arith, from) in
     let kind = subst (λ (n : ℕ). opcode_kind (without_prefix n) ≡ Some kinds.Index) at (variable_kind (b - 0x20) (omega (arith, to, from))) in
-    call_scanned bytes kinds.Index (scanned.Shortest count) some kind (index_scanned (drop 1 bytes) (Some (scanned.Shortest count)) (behind_first u32 bytes (scanned.Shortest count) r))
+    call_scanned bytes kinds.Index (scanned.Minimal count) some kind (index_scanned (drop 1 bytes) (Some (scanned.Minimal count)) (behind_first u32 bytes (scanned.Minimal count) r))
 
 mem_arg_there : (align : ℕ) (bytes : List ℕ) (offset : ℕ) (s : Bool) (left : List ℕ) → align < 64 → u64.at (place true bytes) ≡ Some (offset, place s left) → (w : MemArg) × ((mem_arg.at (place true (align ∷ bytes)) ≡ Some (w, place s left)) × (mem_arg.bytes w ≡ align ∷ u64.bytes offset))
 unfolding mem_arg
@@ -138,23 +138,23 @@ mem_arg_scanned [] s some lt r = absurd (omega arith)
 mem_arg_scanned (align ∷ bytes) s some lt r = behind u64 mem_arg align bytes (λ offset t left e. mem_arg_there align bytes offset t left lt e) s r
 
 -- bytes that are a block type each
-pub empty_scanned : (bytes : List ℕ) → Scans block_type (0x40 ∷ bytes) (Some (scanned.Shortest 1))
+pub empty_scanned : (bytes : List ℕ) → Scans block_type (0x40 ∷ bytes) (Some (scanned.Minimal 1))
 unfolding block_type byte_at
 empty_scanned bytes = (omega arith, (blocks.Empty, refl))
 
-pub f64_scanned : (bytes : List ℕ) → Scans block_type (0x7c ∷ bytes) (Some (scanned.Shortest 1))
+pub f64_scanned : (bytes : List ℕ) → Scans block_type (0x7c ∷ bytes) (Some (scanned.Minimal 1))
 unfolding block_type val_type byte_at
 f64_scanned bytes = (omega arith, (blocks.Result values.F64, refl))
 
-pub f32_scanned : (bytes : List ℕ) → Scans block_type (0x7d ∷ bytes) (Some (scanned.Shortest 1))
+pub f32_scanned : (bytes : List ℕ) → Scans block_type (0x7d ∷ bytes) (Some (scanned.Minimal 1))
 unfolding block_type val_type byte_at
 f32_scanned bytes = (omega arith, (blocks.Result values.F32, refl))
 
-pub i64_scanned : (bytes : List ℕ) → Scans block_type (0x7e ∷ bytes) (Some (scanned.Shortest 1))
+pub i64_scanned : (bytes : List ℕ) → Scans block_type (0x7e ∷ bytes) (Some (scanned.Minimal 1))
 unfolding block_type val_type byte_at
 i64_scanned bytes = (omega arith, (blocks.Result values.I64, refl))
 
-pub i32_scanned : (bytes : List ℕ) → Scans block_type (0x7f ∷ bytes) (Some (scanned.Shortest 1))
+pub i32_scanned : (bytes : List ℕ) → Scans block_type (0x7f ∷ bytes) (Some (scanned.Minimal 1))
 unfolding block_type val_type byte_at
 i32_scanned bytes = (omega arith, (blocks.Result values.I32, refl))
 

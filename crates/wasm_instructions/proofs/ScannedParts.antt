@@ -1,16 +1,17 @@
--- Parts of rare instructions, seen at once to be in their shortest encodings.
+-- Parts of rare instructions, seen at once to be in their minimal encodings.
 use Rattle.std.proofs.Common.{◌≡◌, ◌⊎◌, ℕ, zero, suc, ◌+◌, ◌-◌, ◌*◌, ◌%◌, ◌/◌, ◌^◌, ◌<◌, ◌≤◌, Bool, true, false, eqb, List, [], ◌∷◌, length, get_or, take, drop, drop-drop, length-drop, Option, Some, None, IfSome, refl, sym, ap, subst, ◌∙◌, inl, inr, arith}
 use Rattle.std.proofs.Math.Bool.{and-false}
 use Rattle.std.proofs.lemmas.Bool.{lt-ltb, le-ltb, le-leb, lt-leb, ne_eqb, cases_lt}
 use Rattle.wasm_codec.specs.Places.{Place, place, byte_at, index_at, times_at, raw_at}
 use Rattle.wasm_codec.specs.Leb128.{digits_at, digits_of, signed_leb128}
 use Rattle.wasm_codec.specs.Scanning.{BeginsItems, ReadsShort, Scans}
-use Rattle.wasm_codec.specs.declared.rewriter.scan.Scanned.TheVariants.{Shortest}
+use Rattle.wasm_codec.specs.declared.rewriter.scan.Scanned.TheVariants.{Minimal}
 use Rattle.wasm_codec.specs.formats.Combinators.{Format, a_byte, ◌⊗◌, begins_index, index, items, little_endian, u32, u64}
 use Rattle.wasm_codec.proofs.NumberReading.{u32_one, index_low, index_high}
 use Rattle.wasm_types.specs.declared.types.heap.HeapType.TheVariants.{Concrete}
 use Rattle.wasm_types.specs.declared.types.value.ValType.TheVariants as values
-use Rattle.wasm_types.specs.formats.Types.{heap_type, reference, ref_type, val_type}
+use Rattle.wasm_types.specs.formats.Types.{heap_type, val_type}
+use Rattle.wasm_types.proofs.ScannedValTypes.{begins, no_index}
 use Rattle.wasm_instructions.specs.declared.operands.control.BlockType.TheVariants as blocks
 use Rattle.wasm_instructions.specs.declared.operands.control.Catch.TheVariants as catches
 use Rattle.wasm_instructions.specs.declared.operands.memory.Ordering.TheVariants as orderings
@@ -22,100 +23,21 @@ use Rattle.wasm_instructions.specs.formats.Operands.{block_type, castop, catch_c
 use Rattle.wasm_instructions.proofs.ScannedCalls.{made_scanned, number_scanned}
 use Rattle.wasm_instructions.proofs.ScannedPrefixed.{pair_scanned}
 
--- ---- type indexes
+-- ---- lists of one type
 
-two_digits : (most a b : ℕ) (more : List ℕ) → 128 ≤ a → b < 128 → digits_at (suc (suc most)) (a ∷ b ∷ more) ≡ Some (a ∷ b ∷ [], more)
-unfolding digits_at
-two_digits most a b more le lt = rw (le-ltb a 128 le, lt-ltb b 128 lt) refl
-
-two_written : (turn : Bool) (top n : ℕ) → top ≤ n → n / 128 < top → length (digits_of turn top 9 n) ≡ 2
-unfolding digits_of
-two_written turn top n le lt = rw (le-ltb n top le, lt-ltb (n / 128) top lt) refl
-
-index_two : (a b : ℕ) (more : List ℕ) → 128 ≤ a → a < 256 → b < 64 → (192 ≤ a) ⊎ (0 < b) → index_at (place true (a ∷ b ∷ more)) ≡ Some (a - 128 + 128 * b, place true more)
-unfolding index_at signed_leb128
-index_two a b more from to low fewest =
-    let n = a - 128 + 128 * b in
-    let value : a % 128 + 128 * (b % 128 + 128 * 0) ≡ n = omega (arith, from, to, low) in
-    let two : length (digits_of false 64 9 n) ≡ 2 = two_written false 64 n (some fewest) (omega (arith, to, low)) in
-    rw (two_digits 3 a b more from (omega (arith, low)), lt-ltb b 64 low, value, lt-ltb n (2 ^ 32) (omega (arith, to, low)), two) refl
-  where
-    some : (192 ≤ a) ⊎ (0 < b) → 64 ≤ a - 128 + 128 * b
-    some (inl high) = omega (arith, high)
-    some (inr more) = omega (arith, more)
-
-pub index_one_scanned : (bytes : List ℕ) → 0 < length bytes → get_or bytes 0 0 < 64 → Scans index bytes (Some (Shortest 1))
-index_one_scanned [] some lt = absurd (omega (arith, some))
-index_one_scanned (b ∷ bytes) some lt = (omega arith, (b, index_low (place true (b ∷ bytes)) (place true bytes) b lt refl))
-
-pub index_two_scanned : (bytes : List ℕ) → 1 < length bytes → 128 ≤ get_or bytes 0 0 → get_or bytes 0 0 < 256 → get_or bytes 1 0 < 64 → (192 ≤ get_or bytes 0 0) ⊎ (0 < get_or bytes 1 0) → Scans index bytes (Some (Shortest 2))
-index_two_scanned [] some from to low fewest = absurd (omega (arith, some))
-index_two_scanned (a ∷ []) some from to low fewest = absurd (omega (arith, some))
-index_two_scanned (a ∷ b ∷ bytes) some from to low fewest = (omega arith, (a - 128 + 128 * b, index_two a b bytes from to low fewest))
-
--- the first byte of a type index isn't that of a type
-begins : (b : ℕ) (bytes : List ℕ) (v : ℕ) (p : Place) → index_at (place true (b ∷ bytes)) ≡ Some (v, p) → begins_index (Some b) ≡ true
-begins b bytes v p e = elim (cases_lt b 64) [
-  | inl low ↦ rw (lt-ltb b 64 low) refl
-  | inr high ↦ elim (cases_lt b 128) [
-    | inl middle ↦ let none = sym e ∙ index_high (place true (b ∷ bytes)) (place true bytes) b high middle refl in absurd cc
-    | inr more ↦ rw (le-ltb b 64 high, le-leb 128 b more) refl
-  ]
-]
-
-no_index : (v : ℕ) (p : Place) → index_at (place true []) ≡ Some (v, p) → ⊥
-unfolding index_at digits_at
-no_index v p e = absurd cc
-
--- ---- types
-
-concrete_heap : (bytes : List ℕ) (n : ℕ) → Scans index bytes (Some (Shortest n)) → Scans heap_type bytes (Some (Shortest n))
-unfolding heap_type byte_at
-concrete_heap [] n r = absurd (no_index r.1.0 (place true (drop n [])) r.1.1)
-concrete_heap (b ∷ bytes) n r = (r.0, (Concrete r.1.0, rw (begins b bytes r.1.0 (place true (drop n (b ∷ bytes))) r.1.1, r.1.1) refl))
-
-pub concrete_found : (bytes : List ℕ) (r : Option ℕ) → IfSome r (λ n. Scans index bytes (Some (Shortest n))) → IfSome r (λ n. Scans heap_type bytes (Some (Shortest n)))
-concrete_found bytes None h = tt
-concrete_found bytes (Some n) h = concrete_heap bytes n h
-
-behind_null : (bytes : List ℕ) (n : ℕ) → Scans index bytes (Some (Shortest n)) → Scans val_type (0x63 ∷ bytes) (Some (Shortest (1 + n)))
-unfolding val_type ref_type heap_type byte_at
-behind_null [] n r = absurd (no_index r.1.0 (place true (drop n [])) r.1.1)
-behind_null (b ∷ bytes) n r =
-    let all : 1 + n ≡ suc n = omega arith in
-    (omega (arith, r.0), (values.Ref (reference true (Concrete r.1.0)), rw (all, begins b bytes r.1.0 (place true (drop n (b ∷ bytes))) r.1.1, r.1.1) refl))
-
-behind_bare : (bytes : List ℕ) (n : ℕ) → Scans heap_type bytes (Some (Shortest n)) → Scans val_type (0x64 ∷ bytes) (Some (Shortest (1 + n)))
-unfolding val_type ref_type byte_at
-behind_bare bytes n r =
-    let all : 1 + n ≡ suc n = omega arith in
-    (omega (arith, r.0), (values.Ref (reference false r.1.0), rw (all, r.1.1) refl))
-
-pub nullable_scanned : (bytes : List ℕ) (n : ℕ) → 0 < length bytes → get_or bytes 0 0 ≡ 0x63 → Scans index (drop 1 bytes) (Some (Shortest n)) → Scans val_type bytes (Some (Shortest (1 + n)))
-nullable_scanned [] n some first r = absurd (omega (arith, some))
-nullable_scanned (a ∷ bytes) n some first r = subst (λ (k : ℕ). Scans val_type (k ∷ bytes) (Some (Shortest (1 + n)))) (sym first) (behind_null bytes n r)
-
-pub bare_scanned : (bytes : List ℕ) (n : ℕ) → 0 < length bytes → get_or bytes 0 0 ≡ 0x64 → Scans heap_type (drop 1 bytes) (Some (Shortest n)) → Scans val_type bytes (Some (Shortest (1 + n)))
-bare_scanned [] n some first r = absurd (omega (arith, some))
-bare_scanned (a ∷ bytes) n some first r = subst (λ (k : ℕ). Scans val_type (k ∷ bytes) (Some (Shortest (1 + n)))) (sym first) (behind_bare bytes n r)
-
-pub whole_scanned : (bytes : List ℕ) → 0 < length bytes → ((more : List ℕ) → Scans val_type (get_or bytes 0 0 ∷ more) (Some (Shortest 1))) → Scans val_type bytes (Some (Shortest 1))
-whole_scanned [] some whole = absurd (omega (arith, some))
-whole_scanned (b ∷ bytes) some whole = whole bytes
-
-behind_one : (bytes : List ℕ) (n : ℕ) → Scans val_type bytes (Some (Shortest n)) → Scans (items val_type) (1 ∷ bytes) (Some (Shortest (1 + n)))
+behind_one : (bytes : List ℕ) (n : ℕ) → Scans val_type bytes (Some (Minimal n)) → Scans (items val_type) (1 ∷ bytes) (Some (Minimal (1 + n)))
 unfolding times_at
 behind_one bytes n r =
     let all : 1 + n ≡ suc n = omega arith in
     (omega (arith, r.0), (r.1.0 ∷ [], rw (all, u32_one (place true (1 ∷ bytes)) (place true bytes) 1 (omega arith) refl, r.1.1) refl))
 
-pub one_type_scanned : (bytes : List ℕ) (n : ℕ) → 0 < length bytes → get_or bytes 0 0 ≡ 1 → Scans val_type (drop 1 bytes) (Some (Shortest n)) → Scans (items val_type) bytes (Some (Shortest (1 + n)))
+pub one_type_scanned : (bytes : List ℕ) (n : ℕ) → 0 < length bytes → get_or bytes 0 0 ≡ 1 → Scans val_type (drop 1 bytes) (Some (Minimal n)) → Scans (items val_type) bytes (Some (Minimal (1 + n)))
 one_type_scanned [] n some first r = absurd (omega (arith, some))
-one_type_scanned (a ∷ bytes) n some first r = subst (λ (k : ℕ). Scans (items val_type) (k ∷ bytes) (Some (Shortest (1 + n)))) (sym first) (behind_one bytes n r)
+one_type_scanned (a ∷ bytes) n some first r = subst (λ (k : ℕ). Scans (items val_type) (k ∷ bytes) (Some (Minimal (1 + n)))) (sym first) (behind_one bytes n r)
 
 -- ---- block types
 
-type_block : (bytes : List ℕ) (n : ℕ) → Scans index bytes (Some (Shortest n)) → Scans block_type bytes (Some (Shortest n))
+type_block : (bytes : List ℕ) (n : ℕ) → Scans index bytes (Some (Minimal n)) → Scans block_type bytes (Some (Minimal n))
 unfolding block_type byte_at
 type_block [] n r = absurd (no_index r.1.0 (place true (drop n [])) r.1.1)
 type_block (b ∷ bytes) n r =
@@ -123,11 +45,11 @@ type_block (b ∷ bytes) n r =
     let other : eqb b 0x40 ≡ false = ne_eqb b 0x40 (λ e. let type : begins_index (Some 0x40) ≡ true = subst (λ (k : ℕ). begins_index (Some k) ≡ true) e is in absurd cc) in
     (r.0, (blocks.FunctionType r.1.0, rw (other, is, r.1.1) refl))
 
-pub type_block_found : (bytes : List ℕ) (r : Option ℕ) → IfSome r (λ n. Scans index bytes (Some (Shortest n))) → IfSome r (λ n. Scans block_type bytes (Some (Shortest n)))
+pub type_block_found : (bytes : List ℕ) (r : Option ℕ) → IfSome r (λ n. Scans index bytes (Some (Minimal n))) → IfSome r (λ n. Scans block_type bytes (Some (Minimal n)))
 type_block_found bytes None h = tt
 type_block_found bytes (Some n) h = type_block bytes n h
 
-result_block_scanned : (bytes : List ℕ) (n : ℕ) → 0 < length bytes → 0x40 < get_or bytes 0 0 → get_or bytes 0 0 < 0x80 → Scans val_type bytes (Some (Shortest n)) → Scans block_type bytes (Some (Shortest n))
+result_block_scanned : (bytes : List ℕ) (n : ℕ) → 0 < length bytes → 0x40 < get_or bytes 0 0 → get_or bytes 0 0 < 0x80 → Scans val_type bytes (Some (Minimal n)) → Scans block_type bytes (Some (Minimal n))
 unfolding block_type byte_at
 result_block_scanned [] n some from to r = absurd (omega (arith, some))
 result_block_scanned (b ∷ bytes) n some from to r =
@@ -135,27 +57,27 @@ result_block_scanned (b ∷ bytes) n some from to r =
     let none : begins_index (Some b) ≡ false = rw (le-ltb b 64 (omega (arith, from)), lt-leb 128 b to) refl in
     (r.0, (blocks.Result r.1.0, rw (other, none, r.1.1) refl))
 
-pub result_block_found : (bytes : List ℕ) (r : Option ℕ) → 0 < length bytes → 0x40 < get_or bytes 0 0 → get_or bytes 0 0 < 0x80 → IfSome r (λ n. Scans val_type bytes (Some (Shortest n))) → IfSome r (λ n. Scans block_type bytes (Some (Shortest n)))
+pub result_block_found : (bytes : List ℕ) (r : Option ℕ) → 0 < length bytes → 0x40 < get_or bytes 0 0 → get_or bytes 0 0 < 0x80 → IfSome r (λ n. Scans val_type bytes (Some (Minimal n))) → IfSome r (λ n. Scans block_type bytes (Some (Minimal n)))
 result_block_found bytes None some from to h = tt
 result_block_found bytes (Some n) some from to h = result_block_scanned bytes n some from to h
 
 -- ---- memory arguments
 
-named : (a x : ℕ) (bytes : List ℕ) (n : ℕ) → 64 ≤ a → a < 128 → 0 < x → x < 128 → Scans u64 bytes (Some (Shortest n)) → Scans mem_arg (a ∷ x ∷ bytes) (Some (Shortest (2 + n)))
+named : (a x : ℕ) (bytes : List ℕ) (n : ℕ) → 64 ≤ a → a < 128 → 0 < x → x < 128 → Scans u64 bytes (Some (Minimal n)) → Scans mem_arg (a ∷ x ∷ bytes) (Some (Minimal (2 + n)))
 unfolding mem_arg
 named a x bytes n from to some small r =
     let all : 2 + n ≡ suc (suc n) = omega arith in
     let other : eqb x 0 ≡ false = ne_eqb x 0 (λ e. omega (arith, some, e)) in
     (omega (arith, r.0), (in_memory (a - 64) (x, r.1.0), rw (all, u32_one (place true (a ∷ x ∷ bytes)) (place true (x ∷ bytes)) a to refl, le-ltb a 64 from, lt-ltb a 128 to, u32_one (place true (x ∷ bytes)) (place true bytes) x small refl, r.1.1, other, and-false) refl))
 
-pub named_scanned : (bytes : List ℕ) (n : ℕ) → 1 < length bytes → 64 ≤ get_or bytes 0 0 → get_or bytes 0 0 < 128 → 0 < get_or bytes 1 0 → get_or bytes 1 0 < 128 → Scans u64 (drop 2 bytes) (Some (Shortest n)) → Scans mem_arg bytes (Some (Shortest (2 + n)))
+pub named_scanned : (bytes : List ℕ) (n : ℕ) → 1 < length bytes → 64 ≤ get_or bytes 0 0 → get_or bytes 0 0 < 128 → 0 < get_or bytes 1 0 → get_or bytes 1 0 < 128 → Scans u64 (drop 2 bytes) (Some (Minimal n)) → Scans mem_arg bytes (Some (Minimal (2 + n)))
 named_scanned [] n some from to is small r = absurd (omega (arith, some))
 named_scanned (a ∷ []) n some from to is small r = absurd (omega (arith, some))
 named_scanned (a ∷ x ∷ bytes) n some from to is small r = named a x bytes n from to is small r
 
 -- ---- clauses of try_table
 
-pair_clause : (b : ℕ) (bytes : List ℕ) (m n : ℕ) → b < 2 → Scans u32 bytes (Some (Shortest m)) → Scans u32 (drop m bytes) (Some (Shortest n)) → Scans catch_clause (b ∷ bytes) (Some (Shortest (1 + m + n)))
+pair_clause : (b : ℕ) (bytes : List ℕ) (m n : ℕ) → b < 2 → Scans u32 bytes (Some (Minimal m)) → Scans u32 (drop m bytes) (Some (Minimal n)) → Scans catch_clause (b ∷ bytes) (Some (Minimal (1 + m + n)))
 unfolding catch_clause byte_at
 pair_clause zero bytes m n lt r s =
     let all : 1 + m + n ≡ suc (m + n) = omega arith in
@@ -167,7 +89,7 @@ pair_clause (suc zero) bytes m n lt r s =
     (omega (arith, r.0, s.0, length-drop m bytes), (catches.OneRef r.1.0 s.1.0, rw (r.1.1, s.1.1, all, left) refl))
 pair_clause (suc (suc b)) bytes m n lt r s = absurd (omega (arith, lt))
 
-all_clause : (b : ℕ) (bytes : List ℕ) (m : ℕ) → 2 ≤ b → b < 4 → Scans u32 bytes (Some (Shortest m)) → Scans catch_clause (b ∷ bytes) (Some (Shortest (1 + m)))
+all_clause : (b : ℕ) (bytes : List ℕ) (m : ℕ) → 2 ≤ b → b < 4 → Scans u32 bytes (Some (Minimal m)) → Scans catch_clause (b ∷ bytes) (Some (Minimal (1 + m)))
 unfolding catch_clause byte_at
 all_clause zero bytes m le lt r = absurd (omega (arith, le))
 all_clause (suc zero) bytes m le lt r = absurd (omega (arith, le))
@@ -179,13 +101,13 @@ all_clause (suc (suc (suc zero))) bytes m le lt r =
     (omega (arith, r.0), (catches.AllRef r.1.0, rw (all, r.1.1) refl))
 all_clause (suc (suc (suc (suc b)))) bytes m le lt r = absurd (omega (arith, lt))
 
-pub pair_clause_scanned : (bytes : List ℕ) (m n : ℕ) → 0 < length bytes → get_or bytes 0 0 < 2 → Scans u32 (drop 1 bytes) (Some (Shortest m)) → Scans u32 (drop (1 + m) bytes) (Some (Shortest n)) → Scans catch_clause bytes (Some (Shortest (1 + m + n)))
+pub pair_clause_scanned : (bytes : List ℕ) (m n : ℕ) → 0 < length bytes → get_or bytes 0 0 < 2 → Scans u32 (drop 1 bytes) (Some (Minimal m)) → Scans u32 (drop (1 + m) bytes) (Some (Minimal n)) → Scans catch_clause bytes (Some (Minimal (1 + m + n)))
 pair_clause_scanned [] m n some lt r s = absurd (omega (arith, some))
 pair_clause_scanned (b ∷ bytes) m n some lt r s =
     let next : 1 + m ≡ suc m = omega arith in
     pair_clause b bytes m n lt r (rw next at s)
 
-pub all_clause_scanned : (bytes : List ℕ) (m : ℕ) → 0 < length bytes → 2 ≤ get_or bytes 0 0 → get_or bytes 0 0 < 4 → Scans u32 (drop 1 bytes) (Some (Shortest m)) → Scans catch_clause bytes (Some (Shortest (1 + m)))
+pub all_clause_scanned : (bytes : List ℕ) (m : ℕ) → 0 < length bytes → 2 ≤ get_or bytes 0 0 → get_or bytes 0 0 < 4 → Scans u32 (drop 1 bytes) (Some (Minimal m)) → Scans catch_clause bytes (Some (Minimal (1 + m)))
 all_clause_scanned [] m some le lt r = absurd (omega (arith, some))
 all_clause_scanned (b ∷ bytes) m some le lt r = all_clause b bytes m le lt r
 
@@ -196,39 +118,39 @@ unfolding times_at
 run_times F [] bytes left e = ap (λ (t : List ℕ). Some ([], place true t)) e
 run_times F (v ∷ values) bytes left (next, (read, rest)) = rw (read, run_times F values next left rest) refl
 
-behind_items : {V : Type 0} (F : Format V) (count : ℕ) (bytes : List ℕ) (size : ℕ) → count < 128 → BeginsItems F bytes count size → Scans (items F) (count ∷ bytes) (Some (Shortest (1 + size)))
+behind_items : {V : Type 0} (F : Format V) (count : ℕ) (bytes : List ℕ) (size : ℕ) → count < 128 → BeginsItems F bytes count size → Scans (items F) (count ∷ bytes) (Some (Minimal (1 + size)))
 behind_items F count bytes size lt run =
     let all : 1 + size ≡ suc size = omega arith in
     let times = subst (λ (n : ℕ). times_at F.at n (place true bytes) ≡ Some (run.values, place true (drop size bytes))) run.counted (run_times F run.values bytes (drop size bytes) run.reads) in
     (omega (arith, run.within), (run.values, rw (all, u32_one (place true (count ∷ bytes)) (place true bytes) count lt refl, times) refl))
 
-pub items_scanned : {V : Type 0} (F : Format V) (bytes : List ℕ) (count size : ℕ) → 0 < length bytes → get_or bytes 0 0 ≡ count → count < 128 → BeginsItems F (drop 1 bytes) count size → Scans (items F) bytes (Some (Shortest (1 + size)))
+pub items_scanned : {V : Type 0} (F : Format V) (bytes : List ℕ) (count size : ℕ) → 0 < length bytes → get_or bytes 0 0 ≡ count → count < 128 → BeginsItems F (drop 1 bytes) count size → Scans (items F) bytes (Some (Minimal (1 + size)))
 items_scanned F [] count size some is lt run = absurd (omega (arith, some))
-items_scanned F (b ∷ bytes) count size some is lt run = subst (λ (n : ℕ). Scans (items F) (n ∷ bytes) (Some (Shortest (1 + size)))) (sym is) (behind_items F count bytes size lt run)
+items_scanned F (b ∷ bytes) count size some is lt run = subst (λ (n : ℕ). Scans (items F) (n ∷ bytes) (Some (Minimal (1 + size)))) (sym is) (behind_items F count bytes size lt run)
 
 -- ---- parts of a fixed length
 
-pub vector_scanned : (bytes : List ℕ) → 16 ≤ length bytes → Scans vector bytes (Some (Shortest 16))
+pub vector_scanned : (bytes : List ℕ) → 16 ≤ length bytes → Scans vector bytes (Some (Minimal 16))
 unfolding vector
-vector_scanned bytes le = made_scanned from_halves halves_part (little_endian 8 ⊗ little_endian 8) (λ p. refl) bytes (Some (Shortest 16)) (pair_scanned (little_endian 8) (little_endian 8) bytes 8 8 (number_scanned 8 bytes (omega (arith, le))) (number_scanned 8 (drop 8 bytes) (omega (arith, le, length-drop 8 bytes))))
+vector_scanned bytes le = made_scanned from_halves halves_part (little_endian 8 ⊗ little_endian 8) (λ p. refl) bytes (Some (Minimal 16)) (pair_scanned (little_endian 8) (little_endian 8) bytes 8 8 (number_scanned 8 bytes (omega (arith, le))) (number_scanned 8 (drop 8 bytes) (omega (arith, le, length-drop 8 bytes))))
 
-pub lanes_scanned : (bytes : List ℕ) → 16 ≤ length bytes → Scans lanes bytes (Some (Shortest 16))
+pub lanes_scanned : (bytes : List ℕ) → 16 ≤ length bytes → Scans lanes bytes (Some (Minimal 16))
 unfolding lanes raw_at
 lanes_scanned bytes le = (le, (take 16 bytes, rw (le-ltb (length bytes) 16 le) refl))
 
-pub byte_scanned : (bytes : List ℕ) → 1 ≤ length bytes → Scans a_byte bytes (Some (Shortest 1))
+pub byte_scanned : (bytes : List ℕ) → 1 ≤ length bytes → Scans a_byte bytes (Some (Minimal 1))
 unfolding byte_at
 byte_scanned [] some = absurd (omega (arith, some))
 byte_scanned (b ∷ bytes) some = (some, (b, refl))
 
-pub ordering_scanned : (bytes : List ℕ) → 0 < length bytes → get_or bytes 0 0 < 2 → Scans ordering bytes (Some (Shortest 1))
+pub ordering_scanned : (bytes : List ℕ) → 0 < length bytes → get_or bytes 0 0 < 2 → Scans ordering bytes (Some (Minimal 1))
 unfolding ordering byte_at
 ordering_scanned [] some lt = absurd (omega (arith, some))
 ordering_scanned (zero ∷ bytes) some lt = (omega arith, (orderings.SeqCst, refl))
 ordering_scanned (suc zero ∷ bytes) some lt = (omega arith, (orderings.AcqRel, refl))
 ordering_scanned (suc (suc b) ∷ bytes) some lt = absurd (omega (arith, lt))
 
-pub castop_scanned : (bytes : List ℕ) → 0 < length bytes → get_or bytes 0 0 < 4 → Scans castop bytes (Some (Shortest 1))
+pub castop_scanned : (bytes : List ℕ) → 0 < length bytes → get_or bytes 0 0 < 4 → Scans castop bytes (Some (Minimal 1))
 unfolding castop byte_at
 castop_scanned [] some lt = absurd (omega (arith, some))
 castop_scanned (zero ∷ bytes) some lt = (omega arith, ((false, false), refl))
@@ -239,15 +161,15 @@ castop_scanned (suc (suc (suc (suc b))) ∷ bytes) some lt = absurd (omega (arit
 
 -- ---- operands of several parts
 
-pub try_scanned : (bytes : List ℕ) (m n : ℕ) → Scans block_type bytes (Some (Shortest m)) → Scans (items catch_clause) (drop m bytes) (Some (Shortest n)) → Scans (operands_format kinds.TryTable) bytes (Some (Shortest (m + n)))
+pub try_scanned : (bytes : List ℕ) (m n : ℕ) → Scans block_type bytes (Some (Minimal m)) → Scans (items catch_clause) (drop m bytes) (Some (Minimal n)) → Scans (operands_format kinds.TryTable) bytes (Some (Minimal (m + n)))
 unfolding operands_format
-try_scanned bytes m n a b = made_scanned (λ p. operands.TryTable p.0 p.1) try_table_part (block_type ⊗ items catch_clause) (λ p. refl) bytes (Some (Shortest (m + n))) (pair_scanned block_type (items catch_clause) bytes m n a b)
+try_scanned bytes m n a b = made_scanned (λ p. operands.TryTable p.0 p.1) try_table_part (block_type ⊗ items catch_clause) (λ p. refl) bytes (Some (Minimal (m + n))) (pair_scanned block_type (items catch_clause) bytes m n a b)
 
-pub mem_lane_scanned : (bytes : List ℕ) (m n : ℕ) → Scans mem_arg bytes (Some (Shortest m)) → Scans a_byte (drop m bytes) (Some (Shortest n)) → Scans (operands_format kinds.MemLane) bytes (Some (Shortest (m + n)))
+pub mem_lane_scanned : (bytes : List ℕ) (m n : ℕ) → Scans mem_arg bytes (Some (Minimal m)) → Scans a_byte (drop m bytes) (Some (Minimal n)) → Scans (operands_format kinds.MemLane) bytes (Some (Minimal (m + n)))
 unfolding operands_format
-mem_lane_scanned bytes m n a b = made_scanned (λ p. operands.MemLane p.0 p.1) mem_lane_part (mem_arg ⊗ a_byte) (λ p. refl) bytes (Some (Shortest (m + n))) (pair_scanned mem_arg a_byte bytes m n a b)
+mem_lane_scanned bytes m n a b = made_scanned (λ p. operands.MemLane p.0 p.1) mem_lane_part (mem_arg ⊗ a_byte) (λ p. refl) bytes (Some (Minimal (m + n))) (pair_scanned mem_arg a_byte bytes m n a b)
 
-pub cast_scanned : (bytes : List ℕ) (k l m n : ℕ) → Scans castop bytes (Some (Shortest k)) → Scans u32 (drop k bytes) (Some (Shortest l)) → Scans heap_type (drop (k + l) bytes) (Some (Shortest m)) → Scans heap_type (drop (k + l + m) bytes) (Some (Shortest n)) → Scans (operands_format kinds.Cast) bytes (Some (Shortest (k + l + m + n)))
+pub cast_scanned : (bytes : List ℕ) (k l m n : ℕ) → Scans castop bytes (Some (Minimal k)) → Scans u32 (drop k bytes) (Some (Minimal l)) → Scans heap_type (drop (k + l) bytes) (Some (Minimal m)) → Scans heap_type (drop (k + l + m) bytes) (Some (Minimal n)) → Scans (operands_format kinds.Cast) bytes (Some (Minimal (k + l + m + n)))
 unfolding operands_format
 cast_scanned bytes k l m n flags label before after =
     let at_before : drop (k + l) bytes ≡ drop l (drop k bytes) = sym (drop-drop l k bytes) in
@@ -256,4 +178,4 @@ cast_scanned bytes k l m n flags label before after =
     let types = pair_scanned heap_type heap_type (drop l (drop k bytes)) m n (rw at_before at before) (rw at_after at after) in
     let rest = pair_scanned u32 (heap_type ⊗ heap_type) (drop k bytes) l (m + n) label types in
     let parts = pair_scanned castop (u32 ⊗ heap_type ⊗ heap_type) bytes k (l + (m + n)) flags rest in
-    subst (λ (i : ℕ). Scans (operands_format kinds.Cast) bytes (Some (Shortest i))) all (made_scanned cast_of cast_part (castop ⊗ u32 ⊗ heap_type ⊗ heap_type) (λ p. refl) bytes (Some (Shortest (k + (l + (m + n))))) parts)
+    subst (λ (i : ℕ). Scans (operands_format kinds.Cast) bytes (Some (Minimal i))) all (made_scanned cast_of cast_part (castop ⊗ u32 ⊗ heap_type ⊗ heap_type) (λ p. refl) bytes (Some (Minimal (k + (l + (m + n))))) parts)

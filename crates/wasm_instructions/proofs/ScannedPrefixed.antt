@@ -1,4 +1,4 @@
--- Instructions with a prefix, `ref.null` and `br_table`, seen at once to be in their shortest encodings.
+-- Instructions with a prefix, `ref.null` and `br_table`, seen at once to be in their minimal encodings.
 use Rattle.std.proofs.Common.{◌≡◌, ℕ, zero, suc, ◌+◌, ◌-◌, ◌*◌, ◌%◌, ◌/◌, ◌^◌, ◌<◌, ◌≤◌, true, false, List, [], ◌∷◌, ◌++◌, length, get_or, take, drop, drop-drop, length-drop, Option, Some, None, IfSome, refl, sym, subst, ◌∙◌, arith}
 use Rattle.std.specs.List.{AllByRecursion}
 use Rattle.std.proofs.lemmas.List.{take_more}
@@ -6,7 +6,7 @@ use Rattle.std.proofs.lemmas.Bool.{lt-ltb, le-ltb}
 use Rattle.wasm_codec.specs.Places.{place, byte_at, times_at, u32_at}
 use Rattle.wasm_codec.specs.Leb128.{digits_at, digits_of, unsigned_leb128}
 use Rattle.wasm_codec.specs.Scanning.{Scans}
-use Rattle.wasm_codec.specs.declared.rewriter.scan.Scanned.TheVariants.{Shortest}
+use Rattle.wasm_codec.specs.declared.rewriter.scan.Scanned.TheVariants.{Minimal}
 use Rattle.wasm_codec.specs.formats.Combinators.{Format, ◌⊗◌, made, items, u32}
 use Rattle.wasm_codec.proofs.NumberReading.{u32_one}
 use Rattle.wasm_types.specs.declared.types.heap.AbstractHeapType.TheVariants as abstracts
@@ -25,7 +25,7 @@ use Rattle.wasm_instructions.proofs.ScannedCalls.{made_scanned, one_byte}
 
 -- ---- one after the other
 
-pub pair_scanned : {A B : Type 0} (F : Format A) (G : Format B) (bytes : List ℕ) (m n : ℕ) → Scans F bytes (Some (Shortest m)) → Scans G (drop m bytes) (Some (Shortest n)) → Scans (F ⊗ G) bytes (Some (Shortest (m + n)))
+pub pair_scanned : {A B : Type 0} (F : Format A) (G : Format B) (bytes : List ℕ) (m n : ℕ) → Scans F bytes (Some (Minimal m)) → Scans G (drop m bytes) (Some (Minimal n)) → Scans (F ⊗ G) bytes (Some (Minimal (m + n)))
 pair_scanned F G bytes m n a b =
     let left : drop n (drop m bytes) ≡ drop (m + n) bytes = drop-drop n m bytes in
     (omega (arith, a.0, b.0, length-drop m bytes), ((a.1.0, b.1.0), rw (a.1.1, b.1.1, left) refl))
@@ -102,7 +102,7 @@ two_digit_opcode (a ∷ m ∷ n ∷ bytes) k number some from to high small e is
   kind_is = is.kind_is;
 }
 
-pub opcode_scanned : (bytes : List ℕ) (k : Kind) (size n : ℕ) → HasOpcode bytes k size → Scans (operands_format k) (drop size bytes) (Some (Shortest n)) → Scans instruction bytes (Some (Shortest (size + n)))
+pub opcode_scanned : (bytes : List ℕ) (k : Kind) (size n : ℕ) → HasOpcode bytes k size → Scans (operands_format k) (drop size bytes) (Some (Minimal n)) → Scans instruction bytes (Some (Minimal (size + n)))
 unfolding instruction
 opcode_scanned bytes k size n has r =
     let left : drop n (drop size bytes) ≡ drop (size + n) bytes = drop-drop n size bytes in
@@ -111,41 +111,13 @@ opcode_scanned bytes k size n has r =
 -- ---- operands
 
 -- the operands of a kind, if their one part is found
-pub found_made : {A B : Type 0} (make : A → B) (parts : B → Option A) (F : Format A) → ((a : A) → parts (make a) ≡ Some a) → (bytes : List ℕ) (r : Option ℕ) → IfSome r (λ n. Scans F bytes (Some (Shortest n))) → IfSome r (λ n. Scans (made make parts F) bytes (Some (Shortest n)))
+pub found_made : {A B : Type 0} (make : A → B) (parts : B → Option A) (F : Format A) → ((a : A) → parts (make a) ≡ Some a) → (bytes : List ℕ) (r : Option ℕ) → IfSome r (λ n. Scans F bytes (Some (Minimal n))) → IfSome r (λ n. Scans (made make parts F) bytes (Some (Minimal n)))
 found_made make parts F back bytes None h = h
-found_made make parts F back bytes (Some n) h = made_scanned make parts F back bytes (Some (Shortest n)) h
+found_made make parts F back bytes (Some n) h = made_scanned make parts F back bytes (Some (Minimal n)) h
 
-pub two_scanned : (bytes : List ℕ) (m n : ℕ) → Scans u32 bytes (Some (Shortest m)) → Scans u32 (drop m bytes) (Some (Shortest n)) → Scans (operands_format kinds.TwoIndexes) bytes (Some (Shortest (m + n)))
+pub two_scanned : (bytes : List ℕ) (m n : ℕ) → Scans u32 bytes (Some (Minimal m)) → Scans u32 (drop m bytes) (Some (Minimal n)) → Scans (operands_format kinds.TwoIndexes) bytes (Some (Minimal (m + n)))
 unfolding operands_format
-two_scanned bytes m n a b = made_scanned (λ p. operands.TwoIndexes p.0 p.1) two_indexes_part (u32 ⊗ u32) (λ p. refl) bytes (Some (Shortest (m + n))) (pair_scanned u32 u32 bytes m n a b)
-
--- ---- heap types of one byte
-
-abbrev IsHeap : ℕ → Type 0
-IsHeap b = (more : List ℕ) → Scans heap_type (b ∷ more) (Some (Shortest 1))
-
-abstract_heap : Between IsHeap 0x68 0x76
-unfolding heap_type abstract_type byte_at
-abstract_heap =
-    one_more IsHeap 0x68 0x75 (λ more. (omega arith, (Abstract false abstracts.NoCont, refl)))
-    (one_more IsHeap 0x68 0x74 (λ more. (omega arith, (Abstract false abstracts.NoExn, refl)))
-    (one_more IsHeap 0x68 0x73 (λ more. (omega arith, (Abstract false abstracts.NoFunc, refl)))
-    (one_more IsHeap 0x68 0x72 (λ more. (omega arith, (Abstract false abstracts.NoExtern, refl)))
-    (one_more IsHeap 0x68 0x71 (λ more. (omega arith, (Abstract false abstracts.None, refl)))
-    (one_more IsHeap 0x68 0x70 (λ more. (omega arith, (Abstract false abstracts.Func, refl)))
-    (one_more IsHeap 0x68 0x6f (λ more. (omega arith, (Abstract false abstracts.Extern, refl)))
-    (one_more IsHeap 0x68 0x6e (λ more. (omega arith, (Abstract false abstracts.Any, refl)))
-    (one_more IsHeap 0x68 0x6d (λ more. (omega arith, (Abstract false abstracts.Eq, refl)))
-    (one_more IsHeap 0x68 0x6c (λ more. (omega arith, (Abstract false abstracts.I31, refl)))
-    (one_more IsHeap 0x68 0x6b (λ more. (omega arith, (Abstract false abstracts.Struct, refl)))
-    (one_more IsHeap 0x68 0x6a (λ more. (omega arith, (Abstract false abstracts.Array, refl)))
-    (one_more IsHeap 0x68 0x69 (λ more. (omega arith, (Abstract false abstracts.Exn, refl)))
-    (one_more IsHeap 0x68 0x68 (λ more. (omega arith, (Abstract false abstracts.Cont, refl)))
-    (none_between IsHeap 0x68))))))))))))))
-
-pub one_heap : (bytes : List ℕ) → 0 < length bytes → 0x68 ≤ get_or bytes 0 0 → get_or bytes 0 0 < 0x76 → Scans heap_type bytes (Some (Shortest 1))
-one_heap [] some le lt = absurd (omega (arith, some))
-one_heap (b ∷ bytes) some le lt = abstract_heap b le lt bytes
+two_scanned bytes m n a b = made_scanned (λ p. operands.TwoIndexes p.0 p.1) two_indexes_part (u32 ⊗ u32) (λ p. refl) bytes (Some (Minimal (m + n))) (pair_scanned u32 u32 bytes m n a b)
 
 -- ---- labels of one byte
 
@@ -178,7 +150,7 @@ ones_split (suc count) (b ∷ bytes) lt all =
     let rest = ones_split count bytes (omega (arith, lt)) all.1 in
     ((all.0, rest.0), rest.1)
 
-one_u32 : (bytes : List ℕ) → 0 < length bytes → get_or bytes 0 0 < 128 → Scans u32 bytes (Some (Shortest 1))
+one_u32 : (bytes : List ℕ) → 0 < length bytes → get_or bytes 0 0 < 128 → Scans u32 bytes (Some (Minimal 1))
 one_u32 [] some lt = absurd (omega (arith, some))
 one_u32 (b ∷ bytes) some lt = (omega arith, (b, u32_one (place true (b ∷ bytes)) (place true bytes) b lt refl))
 
@@ -187,20 +159,20 @@ get_dropped zero bytes = refl
 get_dropped (suc count) [] = refl
 get_dropped (suc count) (b ∷ bytes) = get_dropped count bytes
 
-behind_count : (count : ℕ) (bytes : List ℕ) → count < 128 → count < length bytes → AreOnes (take (suc count) bytes) → Scans (operands_format kinds.BrTable) (count ∷ bytes) (Some (Shortest (1 + count + 1)))
+behind_count : (count : ℕ) (bytes : List ℕ) → count < 128 → count < length bytes → AreOnes (take (suc count) bytes) → Scans (operands_format kinds.BrTable) (count ∷ bytes) (Some (Minimal (1 + count + 1)))
 unfolding operands_format
 behind_count count bytes lt within all =
     let parts = ones_split count bytes within all in
     let labels = ones_read count bytes (omega (arith, within)) parts.0 in
     let next : 1 + count ≡ suc count = omega arith in
-    let list : Scans (items u32) (count ∷ bytes) (Some (Shortest (1 + count))) = (omega (arith, within), (labels.0, rw (next, u32_one (place true (count ∷ bytes)) (place true bytes) count lt refl, labels.1) refl)) in
-    let default : Scans u32 (drop (1 + count) (count ∷ bytes)) (Some (Shortest 1)) = rw next (one_u32 (drop count bytes) (omega (arith, within, length-drop count bytes)) (rw (get_dropped count bytes) parts.1)) in
-    made_scanned (λ p. operands.BrTable p.0 p.1) br_table_part (items u32 ⊗ u32) (λ p. refl) (count ∷ bytes) (Some (Shortest (1 + count + 1))) (pair_scanned (items u32) u32 (count ∷ bytes) (1 + count) 1 list default)
+    let list : Scans (items u32) (count ∷ bytes) (Some (Minimal (1 + count))) = (omega (arith, within), (labels.0, rw (next, u32_one (place true (count ∷ bytes)) (place true bytes) count lt refl, labels.1) refl)) in
+    let default : Scans u32 (drop (1 + count) (count ∷ bytes)) (Some (Minimal 1)) = rw next (one_u32 (drop count bytes) (omega (arith, within, length-drop count bytes)) (rw (get_dropped count bytes) parts.1)) in
+    made_scanned (λ p. operands.BrTable p.0 p.1) br_table_part (items u32 ⊗ u32) (λ p. refl) (count ∷ bytes) (Some (Minimal (1 + count + 1))) (pair_scanned (items u32) u32 (count ∷ bytes) (1 + count) 1 list default)
 
-pub labels_scanned : (bytes : List ℕ) (count : ℕ) → 0 < length bytes → 1 + get_or bytes 0 0 ≡ count → get_or bytes 0 0 < 128 → count ≤ length bytes - 1 → AreOnes (take count (drop 1 bytes)) → Scans (operands_format kinds.BrTable) bytes (Some (Shortest (1 + count)))
+pub labels_scanned : (bytes : List ℕ) (count : ℕ) → 0 < length bytes → 1 + get_or bytes 0 0 ≡ count → get_or bytes 0 0 < 128 → count ≤ length bytes - 1 → AreOnes (take count (drop 1 bytes)) → Scans (operands_format kinds.BrTable) bytes (Some (Minimal (1 + count)))
 labels_scanned [] count some is lt within all = absurd (omega (arith, some))
 labels_scanned (first ∷ bytes) count some is lt within all =
     let next : 1 + first ≡ suc first = omega arith in
     let k : 1 + first + 1 ≡ 1 + count = omega (arith, is) in
     let taken : AreOnes (take (suc first) bytes) = subst (λ (n : ℕ). AreOnes (take n bytes)) (sym is ∙ next) all in
-    subst (λ (n : ℕ). Scans (operands_format kinds.BrTable) (first ∷ bytes) (Some (Shortest n))) k (behind_count first bytes lt (omega (arith, within, is)) taken)
+    subst (λ (n : ℕ). Scans (operands_format kinds.BrTable) (first ∷ bytes) (Some (Minimal n))) k (behind_count first bytes lt (omega (arith, within, is)) taken)

@@ -1,6 +1,6 @@
 //! Writers of calls (Core 3.0, Instructions).
 ghost use Rattle.std.specs.Prelude.{◌≡◌, ◌++◌, ◌+◌, ◌≤◌, List, ℕ, length, take, IsOk, IfErr, OnOk, OnErr, vec_len, vec_capacity};
-ghost use Rattle.wasm_codec.specs.Encoding.{IsShortestOrLonger, IsShortest, OnlyTooLong};
+ghost use Rattle.wasm_codec.specs.Encoding.{IsMinimalOrLonger, IsMinimal, OnlyTooLong};
 ghost use Rattle.wasm_instructions.specs.Appending.{IsCallRefusal, IsCallsRefusal, CountedCall};
 ghost use Rattle.wasm_instructions.specs.Instructions.{HasNoList, IsCounted, IsShort, ItemsInRange, NumbersInRange, kind_of};
 ghost use Rattle.wasm_instructions.specs.formats.Instructions.{call, Instructions, instruction, instructions_bytes, operands_format};
@@ -26,8 +26,8 @@ pub fn append_calls<A: Allocator>(bytes: &mut Vec<u8, A>, calls: &[Call]) -> Res
     ensures err { OnErr result (bytes.new.items ≡ bytes.old.items) }
     ensures refused { IfErr result (IsCallsRefusal calls.now) }
     ensures encodes { OnOk result (Instructions (instructions_bytes calls.now) calls.now) }
-    ensures shortest { (bytes : List ℕ) → Instructions bytes calls.now →
-        IsShortestOrLonger bytes (instructions_bytes calls.now) }
+    ensures minimal { (bytes : List ℕ) → Instructions bytes calls.now →
+        IsMinimalOrLonger bytes (instructions_bytes calls.now) }
 {
     let start = bytes.len();
     let appended = append_one_by_one(bytes, calls);
@@ -174,7 +174,7 @@ fn put_operands<A: Allocator>(bytes: &mut Vec<u8, A>, operands: &Operands)
 impl Encode for Call {
     ghost bytes = { instruction.bytes };
 
-    ghost IsWritten = { IsShortest instruction.Encodes instruction.bytes };
+    ghost IsWritten = { IsMinimal instruction.Encodes instruction.bytes };
 
     ghost CanEncode = { CountedCall };
 

@@ -1,7 +1,7 @@
 //! The normaliser of lists of instructions (Core 3.0, Instructions).
 ghost use Rattle.std.specs.Prelude.{◌<◌, length, IfErr};
 ghost use Rattle.wasm_codec.specs.Outcomes.{EncodesSome, LiesIn, as_decoded, as_read};
-ghost use Rattle.wasm_instructions.specs.formats.Instructions.{Instruction, Instructions, ShortestInstructions, instruction};
+ghost use Rattle.wasm_instructions.specs.formats.Instructions.{Instruction, Instructions, MinimalInstructions, instruction};
 ghost use Rattle.wasm_codec.specs.Rewriter.{Rewrites};
 ghost use Rattle.wasm_codec.specs.Decoding.{Normalises, NormalisesInPlace, NormalisesSlice, RewritesAll};
 ghost use Rattle.wasm_codec.specs.formats.Bodies.{to_end};
@@ -13,7 +13,6 @@ use crate::normaliser::operands::rewrite_operands;
 use crate::normaliser::scan::{scan_call, scan_frequent_call, scan_rare_call};
 use crate::reader::take_opcode;
 use crate::table::Call;
-pub use scan::scan_val_type;
 use std::alloc::Global;
 use wasm_codec::reader::cursor::Fault;
 use wasm_codec::reader::malformed::Malformed;
@@ -35,7 +34,7 @@ use wasm_lists::rewriting::{Joinable, Rewritable, rewrite_items_to_end};
 /// assert_eq!(rt; minimal.as_slice(), b"\x20\x42\x0b".as_slice());
 /// ```
 pub fn normalise_instructions(alloc: Global, bytes: &[u8]) -> Result<Vec<u8>, ReadError>
-    ensures normalises { Normalises (to_end instruction) ShortestInstructions (EncodesSome Instructions) bytes.now result }
+    ensures normalises { Normalises (to_end instruction) MinimalInstructions (EncodesSome Instructions) bytes.now result }
 {
     call_bytes_of(alloc, bytes)
 }
@@ -111,7 +110,7 @@ impl Rewritable for Call {
             }
         }
         if let Some(count) = scan_rare_call(rewriter.left()) {
-            rewriter.rewrite_scanned(Scanned::Shortest(count));
+            rewriter.rewrite_scanned(Scanned::Minimal(count));
             return Ok(());
         }
         rewrite_located_call(rewriter)

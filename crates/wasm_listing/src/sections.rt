@@ -126,7 +126,7 @@ pub fn rank(section: &RawSection<'_>) -> u16
 pub fn longer_number(bytes: &[u8]) -> Option<bool> {
     let mut cursor = Cursor::new(bytes);
     match cursor.u32() {
-        Ok(_) => Some(!cursor.is_shortest()),
+        Ok(_) => Some(!cursor.is_minimal()),
         Err(_) => None,
     }
 }

@@ -1,4 +1,4 @@
--- What is rewritten only where it is in its shortest encoding: items, and the count before them.
+-- What is rewritten only where it is in its minimal encoding: items, and the count before them.
 use Rattle.std.specs.Borrow.{GName}
 use Rattle.std.proofs.Common.{◌≡◌, ℕ, ◌+◌, ◌-◌, ◌<◌, ◌≤◌, true, false, List, [], ◌++◌, length, Option, Some, None, Result, Ok, Err, IfOk, IfErr, refl, sym, ap, subst, ◌∙◌, append_assoc, length-append, inl, inr, arith}
 use Rattle.std.specs.Prelude.{is_some}
@@ -35,7 +35,7 @@ pub record Item {V : Type 0} (F : Format V) (old new : Rewriting) : Type 0 where
   pub prefix : List ℕ
   pub encodes : F.Encodes prefix value
   pub parts : old.place.left ≡ prefix ++ new.place.left
-  pub tells : new.place.shortest ≡ keeps old.place.shortest prefix (F.bytes value)
+  pub tells : new.place.minimal ≡ keeps old.place.minimal prefix (F.bytes value)
   pub written : new.done ≡ old.done ++ F.bytes value
   pub rest : new.rest ≡ old.rest
   pub read_len : length old.place.left ≡ length prefix + length new.place.left
@@ -56,16 +56,16 @@ an_item {V} {F} r old new fits e =
       rest = a.given.rest;
       read_len = omega (arith, ap (length {A = ℕ}) s.parts, length-append s.prefix new.place.left);
       written_len = omega (arith, ap (length {A = ℕ}) a.given.written, length-append old.done (F.bytes a.value));
-      no_longer = not_longer s.prefix (F.bytes a.value) (r.shortest.least s.prefix a.value s.encodes);
+      no_longer = not_longer s.prefix (F.bytes a.value) (r.minimal.least s.prefix a.value s.encodes);
     }
 
 -- as many bytes were written as were read
 pub item_taken : {V : Type 0} {F : Format V} → IsLawful F → (old new : Rewriting) → IsBytes old.place.left → rewriting_after F old ≡ Some new → length old.place.left - length new.place.left ≤ length new.done - length old.done → rewriting_after (minimal_only F) old ≡ Some new
 item_taken {V} {F} r old new fits e as_many =
     let i = an_item r old new fits e in
-    let same : i.prefix ≡ F.bytes i.value = elim (r.shortest.least i.prefix i.value i.encodes) [ inl p ↦ p | inr longer ↦ absurd (omega (arith, i.read_len, i.written_len)) ] in
-    let read : (minimal_only F).at (place old.place.shortest (i.prefix ++ new.place.left)) ≡ Some (i.value, place (keeps old.place.shortest i.prefix (F.bytes i.value)) new.place.left) = (Lawful-minimal_only r).reads.complete i.prefix i.value new.place.left old.place.shortest (i.encodes, same) in
-    let there : (minimal_only F).at old.place ≡ Some (i.value, new.place) = ap (λ (l : List ℕ). (minimal_only F).at (place old.place.shortest l)) i.parts ∙ read ∙ ap (λ (s : _). Some (i.value, place s new.place.left)) (sym i.tells) in
+    let same : i.prefix ≡ F.bytes i.value = elim (r.minimal.least i.prefix i.value i.encodes) [ inl p ↦ p | inr longer ↦ absurd (omega (arith, i.read_len, i.written_len)) ] in
+    let read : (minimal_only F).at (place old.place.minimal (i.prefix ++ new.place.left)) ≡ Some (i.value, place (keeps old.place.minimal i.prefix (F.bytes i.value)) new.place.left) = (Lawful-minimal_only r).reads.complete i.prefix i.value new.place.left old.place.minimal (i.encodes, same) in
+    let there : (minimal_only F).at old.place ≡ Some (i.value, new.place) = ap (λ (l : List ℕ). (minimal_only F).at (place old.place.minimal l)) i.parts ∙ read ∙ ap (λ (s : _). Some (i.value, place s new.place.left)) (sym i.tells) in
     after_is (minimal_only F) old new i.value there i.written i.rest
 
 none_unless : {V : Type 0} (F : Format V) → IsLawful F → (p : Place) → IsBytes p.left → ((prefix rest : List ℕ) (v : V) → F.Encodes prefix v → prefix ≡ F.bytes v → p.left ≡ prefix ++ rest → ⊥) → (minimal_only F).at p ≡ None
@@ -80,14 +80,14 @@ none_unless {V} F r p fits never = by ((minimal_only F).at p) refl where
 pub item_refused : {V : Type 0} {F : Format V} → IsLawful F → (old new : Rewriting) → IsBytes old.place.left → rewriting_after F old ≡ Some new → length new.done - length old.done < length old.place.left - length new.place.left → (minimal_only F).at old.place ≡ None
 item_refused {V} {F} r old new fits e fewer =
     let i = an_item r old new fits e in
-    none_unless F r old.place fits (λ prefix rest v g shortest parts.
+    none_unless F r old.place fits (λ prefix rest v g minimal parts.
     let one = one_reading (plain_reads r.reads) i.prefix prefix new.place.left rest i.value v i.encodes g (sym i.parts ∙ parts) in
-    absurd (omega (arith, i.read_len, i.written_len, ap (length {A = ℕ}) one.0, ap (length {A = ℕ}) shortest, ap (λ (w : V). length (F.bytes w)) one.1)))
+    absurd (omega (arith, i.read_len, i.written_len, ap (length {A = ℕ}) one.0, ap (length {A = ℕ}) minimal, ap (λ (w : V). length (F.bytes w)) one.1)))
 
 -- nothing is read there
 pub nothing_there : {V : Type 0} {F : Format V} → IsLawful F → (p : Place) → IsBytes p.left → F.at p ≡ None → (minimal_only F).at p ≡ None
-nothing_there {V} {F} r p fits none = none_unless F r p fits (λ prefix rest v g shortest parts.
-    clash (F.at p) (v, place (keeps p.shortest prefix (F.bytes v)) rest) none (ap (λ (l : List ℕ). F.at (place p.shortest l)) parts ∙ r.reads.complete prefix v rest p.shortest g))
+nothing_there {V} {F} r p fits none = none_unless F r p fits (λ prefix rest v g minimal parts.
+    clash (F.at p) (v, place (keeps p.minimal prefix (F.bytes v)) rest) none (ap (λ (l : List ℕ). F.at (place p.minimal l)) parts ∙ r.reads.complete prefix v rest p.minimal g))
 
 pub refused_again : {V : Type 0} {F : Format V} → IsLawful F → (old mid new : Rewriting) → IsBytes old.place.left → (fault : Fault) → Rewrites F old mid (Err fault) → Rewrites (minimal_only F) old new (Err fault)
 refused_again r old mid new fits (faults.Malformed m) none = nothing_there r old.place fits none
@@ -95,7 +95,7 @@ refused_again r old mid new fits faults.Memory none = none
 
 -- ---- a count, and then items
 
--- the count that the bytes begin with is in its shortest encoding
+-- the count that the bytes begin with is in its minimal encoding
 counted_short : (bytes prefix rest : List ℕ) (n : ℕ) → IsBytes bytes → is_some ((minimal_only u32).at (place true bytes)) ≡ true → EncodesU32 prefix n → bytes ≡ prefix ++ rest → (minimal_only u32).Encodes prefix n
 counted_short bytes prefix rest n fits there g parts = by ((minimal_only u32).at (place true bytes)) refl there where
   by : (o : Option (ℕ × Place)) → (minimal_only u32).at (place true bytes) ≡ o → is_some o ≡ true → (minimal_only u32).Encodes prefix n
@@ -172,7 +172,7 @@ pub refused_unencoded : {V : Type 0} (F : Format V) (bytes : List ℕ) (error : 
 refused_unencoded F bytes errors.Memory none = tt
 refused_unencoded F bytes (errors.Refused at) none = list_unencoded F bytes none
 
--- the items before the part that is refused, after a count in its shortest encoding
+-- the items before the part that is refused, after a count in its minimal encoding
 items_before : {V : Type 0} (G : Grammar V) (bytes : List ℕ) (count index at : ℕ) → IsBytes bytes → is_some ((minimal_only u32).at (place true bytes)) ≡ true → HasItemsBefore EncodesU32 G bytes count index at → HasItemsBefore (minimal_only u32).Encodes G bytes count index at
 items_before G bytes count index at fits there h = record {
   head = h.head;

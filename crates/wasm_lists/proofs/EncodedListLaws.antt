@@ -6,7 +6,7 @@ use Rattle.wasm_codec.specs.declared.encode.EncodeError.{EncodeError}
 use Rattle.std.proofs.lemmas.Grind.{flat_map-append}
 use Rattle.std.proofs.lemmas.List.{append-nil}
 use Rattle.std.proofs.lemmas.List.Elements.{All-nil, All-cons, All-append}
-use Rattle.wasm_codec.specs.Encoding.{IsCount, IsShortest, OnlyTooLong}
+use Rattle.wasm_codec.specs.Encoding.{IsCount, IsMinimal, OnlyTooLong}
 use Rattle.wasm_codec.specs.Lawful.{IsLawful}
 use Rattle.wasm_codec.specs.formats.Combinators.{Format, items}
 use Rattle.wasm_lists.proofs.WrittenLists.{in_range_of}
@@ -47,8 +47,8 @@ by_recursion P (x ∷ xs) h = (h 0 x (omega arith), by_recursion P xs (λ k d lt
 pub values_in_range : {V : Type 0} (F : Format V) (Can : V → Type 0) (list : EncodedItems) (values : List V) → IsCount list.count → StandsForAll F Can list values → (items F).InRange values
 values_in_range F Can list values few s = (subst IsCount s.count few, by_recursion F.InRange values s.in_range)
 
--- values whose bytes were written as their shortest encodings are in range
-pub all_in_range : {V : Type 0} (F : Format V) → IsLawful F → (values : List V) → All (IsShortest F.Encodes F.bytes) values → All F.InRange values
+-- values whose bytes were written as their minimal encodings are in range
+pub all_in_range : {V : Type 0} (F : Format V) → IsLawful F → (values : List V) → All (IsMinimal F.Encodes F.bytes) values → All F.InRange values
 all_in_range F law values h = λ k d lt. in_range_of F law _ (h k d lt)
 
 -- ---- why a value isn't added: it can be written, or a part of it is too long

@@ -5,10 +5,10 @@ use Rattle.wasm_codec.specs.declared.reader.DecodeError.{DecodeError}
 use Rattle.wasm_codec.specs.declared.reader.DecodeError.TheVariants as decode_errors
 use Rattle.wasm_codec.specs.Lawful.{IsLawful, plain}
 use Rattle.wasm_codec.specs.Outcomes.{EncodesSome, HoldsAtRefusal, IsAfterLongest, IsLongestPrefix, error_of, read_error_of}
-use Rattle.wasm_codec.specs.Reading.{BeginsWith, IsReadBy, PlainReader, plain_counted_at}
-use Rattle.wasm_codec.specs.formats.Combinators.{Format, minimal_if, u32}
+use Rattle.wasm_codec.specs.Reading.{◌>>=◌, BeginsWith, IsReadBy, PlainReader, plain_counted_at}
+use Rattle.wasm_codec.specs.formats.Combinators.{Format, minimal_if, only_minimal, u32}
 use Rattle.wasm_codec.specs.formats.Grammar.{Grammar, IsBytes, Joined, TakesBytes}
-use Rattle.wasm_codec.specs.Places.{Place, Reads, keeps, place}
+use Rattle.wasm_codec.specs.Places.{Place, Reads, WasMinimalIf, keeps, place}
 use Rattle.wasm_codec.specs.declared.reader.cursor.Fault.{Fault}
 use Rattle.wasm_codec.specs.declared.reader.cursor.Fault.TheVariants as faults
 use Rattle.wasm_codec.proofs.BodyLaws.{some_bytes}
@@ -23,6 +23,19 @@ use Rattle.wasm_codec.proofs.Laws.{IsBytes-back}
 use Rattle.wasm_codec.proofs.MinimalIfLaws.{Lawful-minimal_if}
 use Rattle.wasm_codec.proofs.PlaceLists.{plain_none, plain_reads, plain_some, step}
 use Rattle.wasm_lists.specs.ItemReading.{BeginsWithNone, EncodesNoList, GivesNext, GivesError, GivesItem, GivesToEnd, GivesList, GivesNone, GaveItems, GaveItemsThen, HasMore, IsStuck, NoneDue, OneLess, Reading, RefusesItems, shifted, values_of}
+
+-- ---- one item
+
+-- an item that was read, and minimally if only minimal encodings are read
+pub read_minimally : {V : Type 0} (F : Format V) (strict : Bool) (here next : Place) (v : V) → WasMinimalIf strict here → F.at here ≡ Some (v, next) → WasMinimalIf strict next → (minimal_if strict F).at here ≡ Some (v, next)
+read_minimally {V} F true here next v was e minimal =
+    let from : place true here.left ≡ here = ap (λ (m : Bool). place m here.left) (sym was) in
+    ap (λ (p : Place). F.at p >>= λ x. only_minimal here.minimal x) from ∙ ap (λ (o : Option (V × Place)). o >>= λ x. only_minimal here.minimal x) e ∙ rw minimal (ap (λ (m : Bool). Some (v, place m next.left)) was)
+read_minimally F false here next v was e minimal = e
+
+pub some_minimally : {V : Type 0} (F : Format V) (strict : Bool) → TakesBytes F.Encodes → TakesBytes (minimal_if strict F).Encodes
+some_minimally F true some v e = some v e.0
+some_minimally F false some v e = some v e
 
 -- ---- one call
 
@@ -93,8 +106,8 @@ unlike o x e f = absurd cc
 -- bytes from which nothing is read begin with no item
 pub nothing_begins : {V : Type 0} {F : Format V} → IsLawful F → (here : Place) → F.at here ≡ None → BeginsWithNone F.Encodes here.left
 nothing_begins {V} {F} r here none v rest begins =
-    let found = r.reads.complete begins.prefix v rest here.shortest begins.encodes in
-    unlike (F.at here) (v, place (keeps here.shortest begins.prefix (F.bytes v)) rest) none (ap (λ (l : List ℕ). F.at (place here.shortest l)) begins.parts ∙ found)
+    let found = r.reads.complete begins.prefix v rest here.minimal begins.encodes in
+    unlike (F.at here) (v, place (keeps here.minimal begins.prefix (F.bytes v)) rest) none (ap (λ (l : List ℕ). F.at (place here.minimal l)) begins.parts ∙ found)
 
 pub one_failed : {V : Type 0} {F : Format V} → IsLawful F → (start len : ℕ) (here new next : Place) (count : Option ℕ) (passed : ℕ) (strict : Bool) (fault : Fault) (error : DecodeError)
     → HasMore (option_map (λ c. c - passed) count) here.left → Reads F.at here new (Err fault) → read_error_of error ≡ shifted start (error_of fault (len - length here.left))
@@ -312,13 +325,13 @@ some_fault : Malformed
 some_fault = record { reason = reasons.Unexplained; left = 0; body = None; section = None; item = None; local_group = None; instruction = None }
 
 -- bytes without a count encode no list
-pub no_list : {V : Type 0} {F : Format V} → IsLawful F → (strict : Bool) (bytes : List ℕ) (shortest : Bool) → IsBytes bytes → (minimal_if strict u32).at (place shortest bytes) ≡ None → (start : ℕ) → EncodesNoList strict F start bytes start
-no_list {V} {F} lawful strict bytes shortest fits none start =
+pub no_list : {V : Type 0} {F : Format V} → IsLawful F → (strict : Bool) (bytes : List ℕ) (minimal : Bool) → IsBytes bytes → (minimal_if strict u32).at (place minimal bytes) ≡ None → (start : ℕ) → EncodesNoList strict F start bytes start
+no_list {V} {F} lawful strict bytes minimal fits none start =
     let number = Lawful-minimal_if strict Lawful-u32 in
     let counts = plain_reads number.reads in
     let G = (minimal_if strict F).Encodes in
     let read = plain (minimal_if strict F).at in
-    let unread : count_of strict bytes ≡ None = plain_none number (place shortest bytes) fits none in
+    let unread : count_of strict bytes ≡ None = plain_none number (place minimal bytes) fits none in
     let answered = count_wanting {X = Unit {0}} counts G read bytes bytes (faults.Malformed some_fault) unread refl in
     let nothing : plain_counted_at (count_of strict) read bytes ≡ None = rw unread refl in
     let ends = longest_of (IsListPrefixMinimalIf strict F) bytes bytes start start answered.prefix refl in

@@ -2,5 +2,5 @@ pub mod EndLaws
 pub mod CheckLaws
 pub mod WrittenLists
 pub mod EncodedListLaws
-pub mod JudgingLaws
+pub mod LongerLaws
 pub mod ItemReadingLaws

@@ -6,13 +6,13 @@ use Rattle.std.proofs.lemmas.List.Quantifiers.{Any-push}
 use Rattle.std.specs.List.{flat_map}
 use Rattle.wasm_codec.specs.declared.encode.EncodeError.{EncodeError}
 use Rattle.wasm_codec.specs.declared.encode.EncodeError.TheVariants.{Memory}
-use Rattle.wasm_codec.specs.Encoding.{Refuses, OnlyTooLong, IsRefusal, IsListRefusal, CanEncodeList, IsShortest}
+use Rattle.wasm_codec.specs.Encoding.{Refuses, OnlyTooLong, IsRefusal, IsListRefusal, CanEncodeList, IsMinimal}
 use Rattle.wasm_codec.specs.Lawful.{IsLawful}
 use Rattle.wasm_codec.specs.formats.Combinators.{Format}
 use Rattle.wasm_lists.specs.Iterators.{IsRefusalOfGiven}
 
 -- a value that was written is in range
-pub in_range_of : {V : Type 0} (F : Format V) → IsLawful F → (v : V) → IsShortest F.Encodes F.bytes v → F.InRange v
+pub in_range_of : {V : Type 0} (F : Format V) → IsLawful F → (v : V) → IsMinimal F.Encodes F.bytes v → F.InRange v
 in_range_of F law v h = law.in_range (F.bytes v) v h.encodes
 
 -- an item that the iterator gave is refused

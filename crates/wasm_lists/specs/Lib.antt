@@ -1,4 +1,4 @@
 pub mod Iterators
 pub mod EncodedLists
-pub mod Judging
+pub mod Longer
 pub mod ItemReading

@@ -30,7 +30,7 @@ pub fn check_list_to_end<T: Rewritable>(alloc: Global, bytes: &[u8]) -> Result<(
         return Err(DecodeError::refused(&malformed.outside_items(), 0, bytes.len()));
     }
     let mut copy = Vec::from_slice(alloc, bytes)?;
-    let _len = rewrite_list_to_end::<Shortest<T>>(copy.as_mut_slice())?;
+    let _len = rewrite_list_to_end::<MinimalOnly<T>>(copy.as_mut_slice())?;
     Ok(())
 }
 
@@ -41,7 +41,7 @@ fn fault_in_count(bytes: &[u8]) -> Option<Malformed>
 {
     let mut cursor = Cursor::new(bytes);
     match cursor.u32() {
-        Ok(_) if cursor.is_shortest() => None,
+        Ok(_) if cursor.is_minimal() => None,
         Ok(_) => Some(Malformed::new(Reason::LongForm, bytes.len())),
         Err(Fault::Malformed(malformed)) => Some(malformed),
         Err(Fault::Memory) => Some(Malformed::new(Reason::LongForm, bytes.len())),
@@ -70,19 +70,19 @@ pub fn check_joined<T: Joinable>(alloc: Global, bytes: &[u8]) -> Result<(), Stop
     ensures passed { T.NeverScans → IfErr result (CountsPassed (minimal_only T.format) bytes.now) }
     ensures names { IfErr result (StopsInItem T.Breaks bytes.now) }
 {
-    Shortest::<T>::is_lawful();
+    MinimalOnly::<T>::is_lawful();
     let mut copy = Vec::from_slice(alloc, bytes)?;
     let mut rewriter = Rewriter::new(copy.as_mut_slice());
     rewriter.are_bytes();
-    rewrite_joined::<Shortest<T>>(&mut rewriter)
+    rewrite_joined::<MinimalOnly<T>>(&mut rewriter)
 }
 
 /// An item that is refused unless it is minimally encoded, so that rewriting keeps it.
-struct Shortest<T> {
+struct MinimalOnly<T> {
     item: PhantomData<T>,
 }
 
-impl<T: Rewritable> Rewritable for Shortest<T> {
+impl<T: Rewritable> Rewritable for MinimalOnly<T> {
     ghost Value = { T.Value };
 
     ghost format = { minimal_only T.format };
@@ -109,13 +109,13 @@ impl<T: Rewritable> Rewritable for Shortest<T> {
     }
 }
 
-impl<T: Joinable> Joinable for Shortest<T> {
+impl<T: Joinable> Joinable for MinimalOnly<T> {
     ghost NeverScans = { T.NeverScans };
 
     #[inline(always)]
     fn scan(bytes: &[u8]) -> Option<Scanned> {
         match T::scan(bytes) {
-            Some(Scanned::Shortest(count)) => Some(Scanned::Shortest(count)),
+            Some(Scanned::Minimal(count)) => Some(Scanned::Minimal(count)),
             _ => None,
         }
     }

@@ -2,7 +2,7 @@
 ghost use Rattle.std.specs.Prelude.{◌≡◌, ◌++◌, ℕ, List, Option, None, OnOk, OnErr, IfErr, IsErrOf, IfSome, IsSomeAnd, ⊤};
 ghost use Rattle.wasm_codec.specs.Leb128.{unsigned_leb128, signed_leb128};
 ghost use Rattle.wasm_codec.specs.formats.Numbers.{EncodesU32, EncodesU64, EncodesS32, EncodesS64};
-ghost use Rattle.wasm_codec.specs.Encoding.{option_bytes, IsCount, IsRefusal, IsShortest, OnlyTooLong, too_long_at_once};
+ghost use Rattle.wasm_codec.specs.Encoding.{option_bytes, IsCount, IsRefusal, IsMinimal, OnlyTooLong, too_long_at_once};
 ghost use Rattle.wasm_codec.specs.declared.encode.EncodeError.{EncodeError};
 
 mod iterators;
@@ -63,8 +63,9 @@ pub trait Encode {
 impl Encode for u32 {
     ghost bytes = { unsigned_leb128 };
 
-    ghost IsWritten = { IsShortest EncodesU32 unsigned_leb128 };
+    ghost IsWritten = { IsMinimal EncodesU32 unsigned_leb128 };
 
+    #[inline(always)]
     fn encode<A: Allocator>(&self, sink: &mut Vec<u8, A>) -> Result<(), EncodeError> {
         sink.reserve(5)?;
         put_u32(sink, *self);
@@ -76,7 +77,7 @@ impl Encode for u32 {
 impl Encode for u64 {
     ghost bytes = { unsigned_leb128 };
 
-    ghost IsWritten = { IsShortest EncodesU64 unsigned_leb128 };
+    ghost IsWritten = { IsMinimal EncodesU64 unsigned_leb128 };
 
     fn encode<A: Allocator>(&self, sink: &mut Vec<u8, A>) -> Result<(), EncodeError> {
         sink.reserve(10)?;
@@ -89,7 +90,7 @@ impl Encode for u64 {
 impl Encode for i32 {
     ghost bytes = { signed_leb128 };
 
-    ghost IsWritten = { IsShortest EncodesS32 signed_leb128 };
+    ghost IsWritten = { IsMinimal EncodesS32 signed_leb128 };
 
     fn encode<A: Allocator>(&self, sink: &mut Vec<u8, A>) -> Result<(), EncodeError> {
         sink.reserve(5)?;
@@ -102,7 +103,7 @@ impl Encode for i32 {
 impl Encode for i64 {
     ghost bytes = { signed_leb128 };
 
-    ghost IsWritten = { IsShortest EncodesS64 signed_leb128 };
+    ghost IsWritten = { IsMinimal EncodesS64 signed_leb128 };
 
     fn encode<A: Allocator>(&self, sink: &mut Vec<u8, A>) -> Result<(), EncodeError> {
         sink.reserve(10)?;
@@ -117,7 +118,7 @@ impl Encode for i64 {
 impl Encode for usize {
     ghost bytes = { unsigned_leb128 };
 
-    ghost IsWritten = { IsShortest EncodesU32 unsigned_leb128 };
+    ghost IsWritten = { IsMinimal EncodesU32 unsigned_leb128 };
 
     ghost CanEncode = { IsCount };
 

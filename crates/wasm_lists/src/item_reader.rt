@@ -2,10 +2,10 @@
 ghost use Rattle.std.specs.Prelude.{◌≡◌, ◌+◌, ◌<◌, ◌^◌, Some, IfErr, IfOk, length, ⊤, false, true};
 ghost use Rattle.std.specs.Iterator.{MakesProgress, at_most};
 ghost use Rattle.wasm_codec.specs.Lawful.{IsLawful};
-ghost use Rattle.wasm_codec.specs.Outcomes.{HoldsAtRefusal, read_error_of};
+ghost use Rattle.wasm_codec.specs.Outcomes.{HoldsAtRefusal, IsMalformed, NeedsNoMemory, as_read, read_error_of};
 ghost use Rattle.wasm_codec.specs.Places.{Reads, WasMinimalIf};
 ghost use Rattle.wasm_codec.specs.Reading.{map_ok};
-ghost use Rattle.wasm_codec.specs.formats.Combinators.{minimal_if};
+ghost use Rattle.wasm_codec.specs.formats.Combinators.{minimal_if, u32 as u32_format};
 ghost use Rattle.wasm_codec.specs.formats.Grammar.{IsBytes, TakesBytes};
 ghost use Rattle.wasm_lists.specs.ItemReading.{EncodesNoList, GivesNext, GivesToEnd, GivesList, HasMore, most_left, shifted, starting};
 
@@ -15,6 +15,7 @@ use std::alloc::Global;
 use std::marker::{Model, PhantomData};
 use wasm_codec::reader::DecodeError;
 use wasm_codec::reader::cursor::{Cursor, Fault};
+use wasm_codec::reader::malformed::{Malformed, Reason};
 
 /// Items one after another, each with its offset in bytes (Core 3.0, Lists).
 ///
@@ -90,6 +91,7 @@ impl<'a, T: Readable<'a>> ItemReader<'a, T> {
         ensures starts { IfOk result (λ reader. reader.strict ≡ false) }
         ensures gives { IfOk result (GivesList T.view T.format 0 bytes.now) }
         ensures refused { IfErr result (λ e. HoldsAtRefusal (read_error_of e) (EncodesNoList false T.format 0 bytes.now)) }
+        ensures memory { NeedsNoMemory (as_read result) }
     {
         ItemReader::list_at(alloc, bytes, 0, false)
     }
@@ -101,6 +103,7 @@ impl<'a, T: Readable<'a>> ItemReader<'a, T> {
         ensures starts { IfOk result (λ reader. reader.strict ≡ true) }
         ensures gives { IfOk result (GivesList T.view T.format 0 bytes.now) }
         ensures refused { IfErr result (λ e. HoldsAtRefusal (read_error_of e) (EncodesNoList true T.format 0 bytes.now)) }
+        ensures memory { NeedsNoMemory (as_read result) }
     {
         ItemReader::list_at(alloc, bytes, 0, true)
     }
@@ -145,10 +148,11 @@ impl<'a, T: Readable<'a>> ItemReader<'a, T> {
         ensures starts { IfOk result (λ reader. reader.strict ≡ is_strict) }
         ensures gives { IfOk result (GivesList T.view T.format start bytes.now) }
         ensures refused { IfErr result (λ e. HoldsAtRefusal (read_error_of e) (EncodesNoList is_strict T.format start bytes.now)) }
+        ensures memory { NeedsNoMemory (as_read result) }
     {
         T::is_lawful();
         let mut cursor = Cursor::new(bytes);
-        match read_item_if::<u32>(is_strict, alloc, &mut cursor, Number::Count) {
+        match read_count(is_strict, &mut cursor) {
             Ok(count) => Ok(ItemReader {
                 alloc,
                 cursor,
@@ -198,8 +202,34 @@ impl<'a, T: Readable<'a>> ItemReader<'a, T> {
     }
 
     /// Reads an item, with the number that its error carries.
+    ///
+    /// The item is first read where it is given, so that the compiler makes it there. If that fails, it is read again
+    /// for the error.
     #[inline(always)]
     fn read_next(&mut self, number: Number) -> Option<Result<(usize, T), DecodeError>>
+        requires more { HasMore self.old.due self.old.left }
+        requires going { self.old.ended ≡ false }
+        ensures gives { GivesNext T.view T.format self.old result self.new }
+        ensures goes { MakesProgress (λ r. ⊤) (λ r. at_most (most_left r)) self.old result self.new }
+    {
+        let at = self.len - self.cursor.len();
+        T::is_lawful();
+        let before = self.cursor.fork();
+        match T::read(self.alloc, &mut self.cursor) {
+            Ok(item) if was_minimal_if(self.is_strict, &self.cursor) => {
+                self.passed = self.passed.wrapping_add(1);
+                return Some(Ok((self.start + at, item)));
+            }
+            _ => {}
+        }
+        self.cursor = before;
+        self.read_or_fail(number)
+    }
+
+    /// Reads an item, or returns the error that carries its number.
+    #[cold]
+    #[inline(never)]
+    fn read_or_fail(&mut self, number: Number) -> Option<Result<(usize, T), DecodeError>>
         requires more { HasMore self.old.due self.old.left }
         requires going { self.old.ended ≡ false }
         ensures gives { GivesNext T.view T.format self.old result self.new }
@@ -216,6 +246,35 @@ impl<'a, T: Readable<'a>> ItemReader<'a, T> {
                 Some(Err(behind(DecodeError::new(fault, at, self.len), self.start)))
             }
         }
+    }
+}
+
+/// Checks whether all that was read is minimally encoded, if `is_strict` is set.
+#[inline(always)]
+fn was_minimal_if(is_strict: bool, cursor: &Cursor<'_>) -> bool
+    ensures { result ≡ true → WasMinimalIf is_strict cursor.now }
+{
+    !is_strict || cursor.is_minimal()
+}
+
+/// Reads the count of a list, minimally encoded if `is_strict` is set.
+fn read_count(is_strict: bool, cursor: &mut Cursor<'_>) -> Result<u32, Fault>
+    requires passed { WasMinimalIf is_strict cursor.old }
+    ensures reads { Reads (minimal_if is_strict u32_format).at cursor.old cursor.new result }
+    ensures passed { IfOk result (λ _. WasMinimalIf is_strict cursor.new) }
+    ensures err { IfErr result IsMalformed }
+    ensures bytes { IsBytes cursor.old.left }
+{
+    cursor.are_bytes();
+    let start = cursor.to_end();
+    match cursor.u32() {
+        Ok(count) if !is_strict || cursor.is_minimal() => Ok(count),
+        Ok(_) => {
+            let long = Malformed::new(Reason::LongForm, start);
+            Err(Fault::Malformed(long.outside_items()))
+        }
+        Err(Fault::Malformed(malformed)) => Err(Fault::Malformed(malformed.outside_items())),
+        Err(Fault::Memory) => Err(Fault::Memory),
     }
 }
 
@@ -265,6 +324,7 @@ impl<'a, T: Readable<'a>> Iterator for ItemReader<'a, T> {
     ghost remaining = { λ r. at_most (most_left r) };
 
     /// Reads the next item. Fails with `Malformed` if none can be decoded, and with `Memory` if an allocation fails.
+    #[inline(always)]
     fn next(&mut self) -> Option<Result<(usize, T), DecodeError>> {
         if self.ended {
             return None;

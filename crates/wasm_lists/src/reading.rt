@@ -139,7 +139,7 @@ fn read_item<'a, T: Readable<'a>, const STRICT: bool>(
     T::is_lawful();
     let start = cursor.to_end();
     let item = T::read(alloc, cursor)?;
-    if STRICT && !cursor.is_shortest() {
+    if STRICT && !cursor.is_minimal() {
         return Err(Fault::Malformed(Malformed::new(Reason::LongForm, start)));
     }
     Ok(item)

@@ -8,7 +8,7 @@ ghost use Rattle.wasm_codec.specs.Lists.{BreaksAtItem, BreaksInBody, CountsItems
 ghost use Rattle.wasm_codec.specs.formats.Combinators.{Format, items, u32 as u32_format};
 ghost use Rattle.wasm_codec.specs.formats.Bodies.{sized, to_end};
 ghost use Rattle.wasm_codec.specs.Scanning.{BeginsShort, Scans, SkipsMinimal};
-ghost use Rattle.wasm_codec.specs.declared.rewriter.scan.Scanned.TheVariants.{Shortest};
+ghost use Rattle.wasm_codec.specs.declared.rewriter.scan.Scanned.TheVariants.{Minimal};
 ghost use Rattle.wasm_codec.specs.Rewriter.{CountsPassed, IsNew, Rewrites, RewritesAll, RewritesList, StopsInItem};
 
 mod numbers;
@@ -62,7 +62,7 @@ pub trait Joinable: Rewritable {
     /// Returns the length of the item that the bytes begin with, if it is of a frequent kind and minimally encoded. By
     /// default no kind is frequent.
     fn scan_frequent(bytes: &[u8]) -> Option<usize>
-        ensures scans { IfSome result (λ count. Scans Self.format bytes.now (Some (Shortest count))) }
+        ensures scans { IfSome result (λ count. Scans Self.format bytes.now (Some (Minimal count))) }
         ensures never { NeverScans → IsNone result }
     {
         None
@@ -265,7 +265,7 @@ pub fn begins_run<T: Joinable>(bytes: &[u8], count: usize) -> bool
 /// Returns the length of the item that the bytes begin with. Returns `None` unless it is scanned and minimally encoded.
 #[inline(always)]
 fn scan_short<T: Joinable>(bytes: &[u8]) -> Option<usize>
-    ensures scans { IfSome result (λ count. Scans T.format bytes.now (Some (Shortest count))) }
+    ensures scans { IfSome result (λ count. Scans T.format bytes.now (Some (Minimal count))) }
     ensures never { T.NeverScans → IsNone result }
 {
     // Tests for the frequent kinds alone are predicted better than a jump to one of all kinds.
@@ -273,7 +273,7 @@ fn scan_short<T: Joinable>(bytes: &[u8]) -> Option<usize>
         return Some(count);
     }
     match T::scan(bytes)? {
-        Scanned::Shortest(count) => Some(count),
+        Scanned::Minimal(count) => Some(count),
         Scanned::Padded { .. } => None,
     }
 }

@@ -20,7 +20,7 @@ use Rattle.wasm_lists.proofs.CheckLaws.{Item, an_item}
 use Rattle.wasm_sections.specs.formats.ModuleSections.{module_section, OfKind}
 use Rattle.wasm_sections.proofs.ModuleSectionLaws.{module_section_is_lawful, of_kind, rewritten_by_kind}
 use Rattle.wasm_modules.specs.Counting.{as_done, TellsLonger, CountsBefore, CountsSized, CountsList, CountsNone, CountsSection, IsCountedSection}
-use Rattle.wasm_modules.specs.LongerItems.{CountsLonger, HasLonger, nothing, shortest, more}
+use Rattle.wasm_modules.specs.LongerItems.{CountsLonger, HasLonger, nothing, minimal, more}
 use Rattle.wasm_modules.specs.declared.counting.ItemCounts.{ItemCounts}
 
 -- So many items after the count were rewritten, of which so many were longer.
@@ -67,8 +67,8 @@ counted_longer {V} {F} r old here next count i longer w lt e fewer =
 pub counted_short : {V : Type 0} {F : Format V} → IsLawful F → (old here next : Rewriting) (count i longer : ℕ) → Counted F old here count i longer → i < count → rewriting_after F here ≡ Some next → TellsLonger here next false → Counted F old next count (i + 1) longer
 counted_short {V} {F} r old here next count i longer w lt e as_many =
     let one = an_item r here next w.fits e in
-    let same : one.prefix ≡ F.bytes one.value = elim (r.shortest.least one.prefix one.value one.encodes) [ inl p ↦ p | inr fewer ↦ absurd (omega (arith, one.read_len, one.written_len, as_many)) ] in
-    let has : HasLonger F (w.back ++ one.prefix) (w.items ++ one.value ∷ []) longer = subst (λ (t : List ℕ). HasLonger F (w.back ++ t) (w.items ++ one.value ∷ []) longer) (sym same) (shortest one.value w.longer_items (r.shortest.again one.prefix one.value one.encodes)) in
+    let same : one.prefix ≡ F.bytes one.value = elim (r.minimal.least one.prefix one.value one.encodes) [ inl p ↦ p | inr fewer ↦ absurd (omega (arith, one.read_len, one.written_len, as_many)) ] in
+    let has : HasLonger F (w.back ++ one.prefix) (w.items ++ one.value ∷ []) longer = subst (λ (t : List ℕ). HasLonger F (w.back ++ t) (w.items ++ one.value ∷ []) longer) (sym same) (minimal one.value w.longer_items (r.minimal.again one.prefix one.value one.encodes)) in
     counted_next r old here next count i longer longer w lt e one has (omega (arith, w.few))
 
 -- what stays isn't told to be longer

@@ -196,7 +196,7 @@ body_is_at old prefix back body parts g =
       parts = all ∙ append_assoc s.0 s.1 back;
       encodes = subst (λ (b : CodeBody). function_code.Encodes s.1 (b.locals, b.calls)) g.2 s.4;
       after = _;
-      read = ap (λ (l : List ℕ). body_at (place old.shortest l)) all ∙ body_complete s.0 s.1 back old.shortest s.3;
+      read = ap (λ (l : List ℕ). body_at (place old.minimal l)) all ∙ body_complete s.0 s.1 back old.minimal s.3;
       left = refl;
     }
 

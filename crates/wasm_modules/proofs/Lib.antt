@@ -10,4 +10,4 @@ pub mod DataUseLaws
 pub mod EncodedOrderLaws
 pub mod EncodedSectionLaws
 pub mod SkippingLaws
-pub mod JudgingLaws
+pub mod LongerLaws

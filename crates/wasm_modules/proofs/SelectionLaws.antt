@@ -13,8 +13,8 @@ use Rattle.wasm_codec.proofs.RewriterLaws.{is_after}
 use Rattle.wasm_code.proofs.SectionWalks.{next_section, no_section, none_left, plainly, section_takes}
 use Rattle.wasm_code.specs.formats.Sections.{SectionParts, header}
 use Rattle.wasm_code.specs.formats.Modules.{raw_module, raw_section}
-use Rattle.wasm_sections.specs.formats.ModuleSections.{KeepsMinimal, ShortestWholeModule}
-use Rattle.wasm_sections.proofs.RawSections.{IsMinimalSection, raw_sections, whole_again}
+use Rattle.wasm_sections.specs.formats.ModuleSections.{IsMinimalSection, KeepsMinimal, MinimalWholeModule}
+use Rattle.wasm_sections.proofs.RawSections.{raw_sections, whole_again}
 use Rattle.wasm_modules.specs.Offsets.{IsNameOf}
 use Rattle.wasm_modules.specs.Selections.{IsDroppedName, IsDropped, ChoosesNext, Without, none, kept, dropped, IsSelected, Selecting, Selects}
 use Rattle.wasm_modules.specs.declared.selection.Selection.{Selection}
@@ -161,4 +161,4 @@ pub minimal_left : (selection : Selection) (bytes result : List ℕ) → ((secti
 minimal_left selection bytes result selected g =
     let raw = raw_sections bytes g in
     let w = selected raw.sections raw.encodes in
-    subst (EncodesSome ShortestWholeModule) (sym w.written) (whole_again w.left (kept_all IsMinimalSection w.chosen raw.minimal))
+    subst (EncodesSome MinimalWholeModule) (sym w.written) (whole_again w.left (kept_all IsMinimalSection w.chosen raw.minimal))

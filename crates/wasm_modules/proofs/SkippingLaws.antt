@@ -35,7 +35,7 @@ pub record IsRead {V : Type 0} (F : Format V) (old : Place) (back : List ℕ) (v
 
 pub is_read : {V : Type 0} {F : Format V} → IsLawful F → (old : Place) (prefix back : List ℕ) (v : V) → old.left ≡ prefix ++ back → F.Encodes prefix v → IsRead F old back v
 is_read {V} {F} law old prefix back v parts g =
-    record { after = place (keeps old.shortest prefix (F.bytes v)) back; read = ap (λ (l : List ℕ). F.at (place old.shortest l)) parts ∙ law.reads.complete prefix v back old.shortest g; left = refl }
+    record { after = place (keeps old.minimal prefix (F.bytes v)) back; read = ap (λ (l : List ℕ). F.at (place old.minimal l)) parts ∙ law.reads.complete prefix v back old.minimal g; left = refl }
 
 -- what was read there is that value
 pub same_read : {V : Type 0} {F : Format V} {old : Place} {back : List ℕ} {v w : V} {new : Place} → IsRead F old back v → F.at old ≡ Some (w, new) → (new.left ≡ back) × (w ≡ v)

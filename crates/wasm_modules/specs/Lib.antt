@@ -11,4 +11,4 @@ pub mod DataOpcodes
 pub mod EncodedSections
 pub mod Skipping
 pub mod IndexOverflows
-pub mod Judging
+pub mod Longer

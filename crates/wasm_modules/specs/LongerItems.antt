@@ -6,7 +6,7 @@ use Rattle.wasm_codec.specs.formats.Combinators.{Format}
 -- These are encodings of the items, and this number of them aren't minimal.
 pub data HasLonger {V : Type 0} (F : Format V) : List ℕ → List V → ℕ → Type 0 where
   nothing : HasLonger F [] [] 0
-  shortest : {bytes : List ℕ} {items : List V} {longer : ℕ} (item : V) → HasLonger F bytes items longer → F.Encodes (F.bytes item) item → HasLonger F (bytes ++ F.bytes item) (items ++ item ∷ []) longer
+  minimal : {bytes : List ℕ} {items : List V} {longer : ℕ} (item : V) → HasLonger F bytes items longer → F.Encodes (F.bytes item) item → HasLonger F (bytes ++ F.bytes item) (items ++ item ∷ []) longer
   more : {bytes : List ℕ} {items : List V} {longer : ℕ} (item : V) (encoding : List ℕ) → HasLonger F bytes items longer → F.Encodes encoding item → length (F.bytes item) < length encoding → HasLonger F (bytes ++ encoding) (items ++ item ∷ []) (longer + 1)
 
 -- The body is a list of this many items, and this number of them aren't minimally encoded.

@@ -3,13 +3,13 @@ ghost use Rattle.std.specs.Prelude.{◌≡◌, ◌≤◌, List, IfOk, IfErr, IfS
 ghost use Rattle.std.specs.List.{AllByRecursion};
 ghost use Rattle.wasm_codec.specs.Outcomes.{IfMalformed, LiesIn, as_decoded, as_read, NeedsNoMemory};
 ghost use Rattle.wasm_codec.specs.formats.Combinators.{minimal_if, minimal_only};
-ghost use Rattle.wasm_code.specs.Judging.{len_of, verdict_of, RefusalLiesIn};
-ghost use Rattle.wasm_modules.specs.Judging.{form_of};
+ghost use Rattle.wasm_code.specs.Longer.{len_of, verdict_of, RefusalLiesIn};
+ghost use Rattle.wasm_modules.specs.Longer.{form_of};
 ghost use Rattle.wasm_code.specs.Modules.{CountsSections, IsModulePrefixOf};
 ghost use Rattle.wasm_modules.specs.RefusalNumbers.{CountsParts};
 ghost use Rattle.wasm_sections.specs.formats.ModuleSectionParts.{ModuleSectionParts, all_module_section_parts};
-ghost use Rattle.wasm_sections.specs.formats.ModuleSections.{module_section, whole_module, ShortestWholeModule};
-ghost use Rattle.wasm_codec.specs.Decoding.{Decodes, DecodesMinimal, Checks, Normalises, NormalisesInPlace, NormalisesTo, ChecksAll, RewritesInPlace, IsMinimal};
+ghost use Rattle.wasm_sections.specs.formats.ModuleSections.{module_section, whole_module, MinimalWholeModule};
+ghost use Rattle.wasm_codec.specs.Decoding.{Decodes, DecodesMinimal, Checks, Normalises, NormalisesInPlace, NormalisesTo, ChecksAll, RewritesInPlace, TakesMinimal};
 ghost use Rattle.wasm_codec.specs.Lawful.{IsLawfulBody};
 ghost use Rattle.wasm_code.specs.DecodedPrefixes.{ArePrefixes};
 
@@ -17,8 +17,8 @@ pub use crate::counting::ItemCounts;
 pub use crate::order::{ModuleError, check_order};
 use std::alloc::Global;
 use wasm_code::decode::{Decode, check, normalise, read, read_strict, rewrite};
-pub use wasm_code::judging::Judgement;
-use wasm_code::judging::judge_module_of;
+pub use wasm_code::longer::CheckedInPlace;
+use wasm_code::longer::rewrite_and_check_module_of;
 use wasm_code::normaliser::framing::rewrite_module_of;
 use wasm_code::raw::{check_module_of, read_module_of};
 use wasm_codec::reader::refusal::Refusal;
@@ -49,7 +49,7 @@ impl<'a> Decode<'a> for WholeModule {
 
     ghost format = { whole_module };
 
-    ghost Minimal = { ShortestWholeModule };
+    ghost Minimal = { MinimalWholeModule };
 
     ghost IsPrefix = { IsModulePrefixOf module_section };
 
@@ -61,9 +61,9 @@ impl<'a> Decode<'a> for WholeModule {
     #[tactic(auto, using(wasm_sections::proofs::ModuleSectionLaws::whole_module_is_lawful))]
     fn is_lawful()
         ensures lawful { IsLawfulBody whole_module }
-        ensures minimal { IsMinimal whole_module ShortestWholeModule }
+        ensures minimal { TakesMinimal whole_module MinimalWholeModule }
         ensures prefixes { ArePrefixes whole_module.Encodes (IsModulePrefixOf module_section) }
-        ensures minimal_prefixes { ArePrefixes ShortestWholeModule (IsModulePrefixOf (minimal_only module_section)) }
+        ensures minimal_prefixes { ArePrefixes MinimalWholeModule (IsModulePrefixOf (minimal_only module_section)) }
     {}
 
     #[tactic(auto, using(crate::proofs::RefusalLaws::counts_parts))]
@@ -81,7 +81,7 @@ impl<'a> Decode<'a> for WholeModule {
 
     #[tactic(auto, using(crate::proofs::RefusalLaws::counts_parts))]
     fn check_all(alloc: Global, bytes: &[u8]) -> Result<(), DecodeError>
-        ensures checks { ChecksAll ShortestWholeModule (IsModulePrefixOf (minimal_only module_section)) bytes.now (as_read result) }
+        ensures checks { ChecksAll MinimalWholeModule (IsModulePrefixOf (minimal_only module_section)) bytes.now (as_read result) }
         ensures place { IfErr result (LiesIn (length bytes.now)) }
         ensures counts { IfMalformed result (CountsParts (minimal_only module_section) bytes.now) }
     {
@@ -142,7 +142,7 @@ pub fn read_whole_module_strict<'a>(
     alloc: Global,
     bytes: &'a [u8],
 ) -> Result<Vec<ModuleSection<'a>>, ReadError>
-    ensures decodes { DecodesMinimal (λ sections. all_module_section_parts sections.items) whole_module ShortestWholeModule (IsModulePrefixOf (minimal_only module_section)) bytes.now result }
+    ensures decodes { DecodesMinimal (λ sections. all_module_section_parts sections.items) whole_module MinimalWholeModule (IsModulePrefixOf (minimal_only module_section)) bytes.now result }
 {
     without_reason(read_strict::<WholeModule>(alloc, bytes))
 }
@@ -152,7 +152,7 @@ pub fn read_whole_module_strict<'a>(
 /// Accepts and refuses as `read_whole_module_strict` does, but builds no list of sections. Fails with `Memory` if an
 /// allocation fails.
 pub fn check_whole_module(alloc: Global, bytes: &[u8]) -> Result<(), ReadError>
-    ensures checks { Checks whole_module ShortestWholeModule (IsModulePrefixOf (minimal_only module_section)) bytes.now result }
+    ensures checks { Checks whole_module MinimalWholeModule (IsModulePrefixOf (minimal_only module_section)) bytes.now result }
 {
     without_reason(check::<WholeModule>(alloc, bytes))
 }
@@ -171,7 +171,7 @@ pub fn check_whole_module(alloc: Global, bytes: &[u8]) -> Result<(), ReadError>
 /// assert_eq!(rt; minimal.as_slice(), b"\0asm\x01\0\0\0\x08\x01\x05".as_slice());
 /// ```
 pub fn normalise_whole_module(alloc: Global, bytes: &[u8]) -> Result<Vec<u8>, ReadError>
-    ensures normalises { Normalises whole_module ShortestWholeModule (IsModulePrefixOf module_section) bytes.now result }
+    ensures normalises { Normalises whole_module MinimalWholeModule (IsModulePrefixOf module_section) bytes.now result }
     // The minimal encoding of sections in range encodes them.
     ensures encodes { (sections : List ModuleSectionParts) → AllByRecursion module_section.InRange sections →
         bytes.now ≡ whole_module.bytes sections → whole_module.Encodes bytes.now sections }
@@ -199,7 +199,7 @@ pub fn rewrite_whole_module(bytes: Vec<u8>) -> Result<Vec<u8>, ReadError>
 
 /// The minimal encoding of a module, and what the module was.
 #[derive(Debug, PartialEq, Eq, Drop)]
-pub struct Judged {
+pub struct CheckedModule {
     /// The minimal encoding.
     pub bytes: Vec<u8>,
     /// The first part of the module that wasn't minimally encoded. Its `at` is the offset of the first such section.
@@ -215,35 +215,35 @@ pub struct Judged {
 ///
 /// ```
 /// # use wasm_encoder::Reason;
-/// # use wasm_encoder::sections::judge_whole_module;
+/// # use wasm_encoder::sections::rewrite_and_check_whole_module;
 /// let padded = Vec::from_slice(rt.alloc(), b"\0asm\x01\0\0\0\x08\x02\x85\x00")?; // the index 5 in two bytes
-/// let judged = judge_whole_module(padded)?;
-/// assert_eq!(rt; judged.bytes.as_slice(), b"\0asm\x01\0\0\0\x08\x01\x05".as_slice());
-/// let reason = judged.longer.map(|refusal| (refusal.offset, refusal.reason));
+/// let checked = rewrite_and_check_whole_module(padded)?;
+/// assert_eq!(rt; checked.bytes.as_slice(), b"\0asm\x01\0\0\0\x08\x01\x05".as_slice());
+/// let reason = checked.longer.map(|refusal| (refusal.offset, refusal.reason));
 /// assert_eq!(rt; reason, Some((10, Reason::NotMinimal { bytes: 2, minimal: 1 })));
-/// assert!(rt; judge_whole_module(judged.bytes)?.longer.is_none());
+/// assert!(rt; rewrite_and_check_whole_module(checked.bytes)?.longer.is_none());
 /// ```
-pub fn judge_whole_module(bytes: Vec<u8>) -> Result<Judged, DecodeError>
+pub fn rewrite_and_check_whole_module(bytes: Vec<u8>) -> Result<CheckedModule, DecodeError>
     ensures normalises { NormalisesInPlace whole_module (IsModulePrefixOf module_section) bytes.items (form_of result) }
     // The result is that of `check_whole_module`.
-    ensures judges { IfOk result (λ judged. Checks whole_module ShortestWholeModule (IsModulePrefixOf (minimal_only module_section)) bytes.items (verdict_of judged.longer)) }
+    ensures checks { IfOk result (λ checked. Checks whole_module MinimalWholeModule (IsModulePrefixOf (minimal_only module_section)) bytes.items (verdict_of checked.longer)) }
     ensures place { IfErr result (LiesIn (length bytes.items)) }
-    ensures within { IfOk result (λ judged. IfSome judged.longer (RefusalLiesIn (length bytes.items))) }
+    ensures within { IfOk result (λ checked. IfSome checked.longer (RefusalLiesIn (length bytes.items))) }
     ensures counts { IfMalformed result (CountsParts module_section bytes.items) }
     // The section of the first part that isn't minimal counts the sections before it, which are minimally encoded.
-    ensures numbers { IfOk result (λ judged. IfSome judged.longer (CountsSections (minimal_only module_section) bytes.items)) }
+    ensures numbers { IfOk result (λ checked. IfSome checked.longer (CountsSections (minimal_only module_section) bytes.items)) }
 {
     let mut bytes = bytes;
-    match judge_module_of::<AnySection>(bytes.as_mut_slice()) {
-        Ok(Judgement { len, longer }) => {
+    match rewrite_and_check_module_of::<AnySection>(bytes.as_mut_slice()) {
+        Ok(CheckedInPlace { len, longer }) => {
             bytes.truncate(len);
-            Ok(Judged { bytes, longer })
+            Ok(CheckedModule { bytes, longer })
         }
         Err(error) => Err(error),
     }
 }
 
-/// Replaces a module by its minimal encoding in place, as [`judge_whole_module`] does. The minimal encoding begins the
+/// Replaces a module by its minimal encoding in place, as [`rewrite_and_check_whole_module`] does. The minimal encoding begins the
 /// slice.
 ///
 /// If it fails, the bytes are unspecified. Allocates nothing.
@@ -251,22 +251,22 @@ pub fn judge_whole_module(bytes: Vec<u8>) -> Result<Judged, DecodeError>
 /// # Examples
 ///
 /// ```
-/// # use wasm_encoder::sections::judge_in_place;
+/// # use wasm_encoder::sections::rewrite_and_check_in_place;
 /// let mut bytes = *b"\0asm\x01\0\0\0\x08\x02\x85\x00"; // the index 5 in two bytes
-/// let judged = judge_in_place(&mut bytes)?;
-/// assert_eq!(rt; &bytes[..judged.len], b"\0asm\x01\0\0\0\x08\x01\x05".as_slice());
-/// assert_eq!(rt; judged.longer.map(|refusal| refusal.offset), Some(10));
+/// let checked = rewrite_and_check_in_place(&mut bytes)?;
+/// assert_eq!(rt; &bytes[..checked.len], b"\0asm\x01\0\0\0\x08\x01\x05".as_slice());
+/// assert_eq!(rt; checked.longer.map(|refusal| refusal.offset), Some(10));
 /// ```
-pub fn judge_in_place(bytes: &mut [u8]) -> Result<Judgement, Refusal>
-    ensures len { IfOk result (λ judged. judged.len ≤ length bytes.new) }
+pub fn rewrite_and_check_in_place(bytes: &mut [u8]) -> Result<CheckedInPlace, Refusal>
+    ensures len { IfOk result (λ checked. checked.len ≤ length bytes.new) }
     ensures normalises { NormalisesTo whole_module (IsModulePrefixOf module_section) bytes.old (λ len. take len bytes.new) (len_of (as_decoded result)) }
     // The result is that of `check_whole_module`.
-    ensures judges { IfOk result (λ judged. Checks whole_module ShortestWholeModule (IsModulePrefixOf (minimal_only module_section)) bytes.old (verdict_of judged.longer)) }
+    ensures checks { IfOk result (λ checked. Checks whole_module MinimalWholeModule (IsModulePrefixOf (minimal_only module_section)) bytes.old (verdict_of checked.longer)) }
     ensures place { IfErr (as_decoded result) (LiesIn (length bytes.old)) }
-    ensures within { IfOk result (λ judged. IfSome judged.longer (RefusalLiesIn (length bytes.old))) }
+    ensures within { IfOk result (λ checked. IfSome checked.longer (RefusalLiesIn (length bytes.old))) }
     ensures counts { IfMalformed (as_decoded result) (CountsParts module_section bytes.old) }
     // The section of the first part that isn't minimal counts the sections before it, which are minimally encoded.
-    ensures numbers { IfOk result (λ judged. IfSome judged.longer (CountsSections (minimal_only module_section) bytes.old)) }
+    ensures numbers { IfOk result (λ checked. IfSome checked.longer (CountsSections (minimal_only module_section) bytes.old)) }
 {
-    without_memory(judge_module_of::<AnySection>(bytes))
+    without_memory(rewrite_and_check_module_of::<AnySection>(bytes))
 }

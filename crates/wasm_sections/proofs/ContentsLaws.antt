@@ -8,7 +8,7 @@ use Rattle.wasm_codec.specs.declared.reader.ReadError.{ReadError}
 use Rattle.wasm_codec.specs.declared.reader.ReadError.TheVariants as read_errors
 use Rattle.wasm_codec.specs.formats.Combinators.{Format, minimal_if}
 use Rattle.wasm_lists.specs.ItemReading.{shifted}
-use Rattle.wasm_sections.specs.Prefixes.{IsNothingOr}
+use Rattle.wasm_code.specs.DecodedPrefixes.{IsNothingOr}
 use Rattle.wasm_sections.specs.SectionContents.{EncodesNoValue}
 
 -- a body that was refused encodes no value

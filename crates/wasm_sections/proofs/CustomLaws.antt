@@ -2,7 +2,7 @@
 use Rattle.std.proofs.Common.{◌≡◌, ℕ, ◌≤◌, true, false, List, [], ◌++◌, length, take, length-append, Option, Some, None, Result, Ok, Err, OnOk, refl, sym, ap, subst, ◌∙◌, append_assoc, inl, inr, arith, ◌+◌}
 use Rattle.std.proofs.Math.Seq.{take-length}
 use Rattle.std.proofs.lemmas.List.{append-nil}
-use Rattle.wasm_codec.specs.Encoding.{byte_list_bytes, IsShortestOrLonger, IsShortest}
+use Rattle.wasm_codec.specs.Encoding.{byte_list_bytes, IsMinimalOrLonger, IsMinimal}
 use Rattle.wasm_codec.specs.formats.Grammar.{IsBytes}
 use Rattle.wasm_codec.specs.declared.reader.cursor.Fault.{Fault}
 use Rattle.wasm_codec.specs.Outcomes.{IsMalformed}
@@ -20,7 +20,8 @@ use Rattle.wasm_codec.proofs.RewriterLaws.{is_after, after_is}
 use Rattle.wasm_codec.proofs.NumberLaws.{written}
 use Rattle.wasm_lists.proofs.WrittenLists.{in_range_of}
 use Rattle.wasm_sections.specs.formats.EntryParts.{CustomParts}
-use Rattle.wasm_sections.specs.Prefixes.{IsNothingOr, IsRefusedAt, AreLawfulPrefixes}
+use Rattle.wasm_code.specs.DecodedPrefixes.{IsNothingOr}
+use Rattle.wasm_sections.specs.Prefixes.{IsRefusedAt, AreLawfulPrefixes}
 use Rattle.wasm_externals.specs.formats.Names.{name}
 use Rattle.wasm_sections.specs.formats.Sections.{custom_of, parts_of_custom, custom_body}
 use Rattle.wasm_externals.proofs.NameLaws.{name_is_lawful}
@@ -38,7 +39,7 @@ unfolding custom_body
 custom_rewritten old mid new e f =
     let n = is_after name old mid e in
     let b = is_after bytes_to_end mid new f in
-    let same = ap (λ (x : List ℕ × Place). Some (custom_of (n.value, x.0), x.1)) (some_is (mid.place.left, place mid.place.shortest []) (b.value, new.place) b.given.is_read) in
+    let same = ap (λ (x : List ℕ × Place). Some (custom_of (n.value, x.0), x.1)) (some_is (mid.place.left, place mid.place.minimal []) (b.value, new.place) b.given.is_read) in
     after_is custom_body old new (custom_of (n.value, b.value)) (rw n.given.is_read same) (b.given.written ∙ ap (λ (d : List ℕ). d ++ b.value) n.given.written ∙ append_assoc old.done (name.bytes n.value) b.value) (b.given.rest ∙ n.given.rest)
 
 -- what is read of it leaves nothing
@@ -46,8 +47,8 @@ nothing_left : (p : Place) (v : CustomParts) (q : Place) → custom_body.at p �
 unfolding custom_body
 nothing_left p v q e =
     let x = bind_some ((name ⊗ bytes_to_end).at p) (λ a. Some (custom_of a.0, a.1)) (v, q) e in
-    let y = bind_some (name.at p) (λ a. Some ((a.0, a.1.left), place a.1.shortest [])) x.0 x.1 in
-    sym (ap (λ (z : CustomParts × Place). z.1.left) (some_is (custom_of x.0.0, x.0.1) (v, q) x.2)) ∙ sym (ap (λ (z : (List ℕ × List ℕ) × Place). z.1.left) (some_is ((y.0.0, y.0.1.left), place y.0.1.shortest []) x.0 y.2))
+    let y = bind_some (name.at p) (λ a. Some ((a.0, a.1.left), place a.1.minimal [])) x.0 x.1 in
+    sym (ap (λ (z : CustomParts × Place). z.1.left) (some_is (custom_of x.0.0, x.0.1) (v, q) x.2)) ∙ sym (ap (λ (z : (List ℕ × List ℕ) × Place). z.1.left) (some_is ((y.0.0, y.0.1.left), place y.0.1.minimal []) x.0 y.2))
 
 clash : {A : Type 0} (o : Option A) (x : A) → o ≡ None → o ≡ Some x → ⊥
 clash o x e f = absurd cc
@@ -85,9 +86,9 @@ unfolding custom_body
 begins_with_short_name other v g =
     let h = g.0.1 in
     let whole : h.0 ++ h.1 ≡ name.bytes g.0.0.0 ++ g.0.0.1 = sym h.2 ∙ g.1 ∙ ap (λ (w : CustomParts). name.bytes w.name ++ w.data_bytes) (sym g.0.2) in
-    record { text = g.0.0.0; front = h.0; back = h.1; parts = h.2; encodes = (h.3, short h.0 h.1 (name.bytes g.0.0.0) g.0.0.1 (name_is_lawful.shortest.least h.0 g.0.0.0 h.3) h.4.0 whole) }
+    record { text = g.0.0.0; front = h.0; back = h.1; parts = h.2; encodes = (h.3, short h.0 h.1 (name.bytes g.0.0.0) g.0.0.1 (name_is_lawful.minimal.least h.0 g.0.0.0 h.3) h.4.0 whole) }
   where
-    short : (front back bytes rest : List ℕ) → IsShortestOrLonger front bytes → back ≡ rest → front ++ back ≡ bytes ++ rest → front ≡ bytes
+    short : (front back bytes rest : List ℕ) → IsMinimalOrLonger front bytes → back ≡ rest → front ++ back ≡ bytes ++ rest → front ≡ bytes
     short front back bytes rest (inl same) e whole = same
     short front back bytes rest (inr longer) e whole = absurd (omega (arith, longer, ap (length {A = ℕ}) e, ap (length {A = ℕ}) whole, length-append front back, length-append bytes rest))
 
@@ -97,8 +98,8 @@ name_none p none = by (name.at p) refl where
   by : (o : Option (List ℕ × Place)) → name.at p ≡ o → o ≡ None
   by None e = refl
   by (Some x) e =
-      let read : custom_body.at p ≡ Some (custom_of (x.0, x.1.left), place x.1.shortest []) = rw e refl in
-      absurd (clash (custom_body.at p) (custom_of (x.0, x.1.left), place x.1.shortest []) none read)
+      let read : custom_body.at p ≡ Some (custom_of (x.0, x.1.left), place x.1.minimal []) = rw e refl in
+      absurd (clash (custom_body.at p) (custom_of (x.0, x.1.left), place x.1.minimal []) none read)
 
 pub custom_prefixes : AreLawfulPrefixes custom_body
 custom_prefixes = record {
@@ -129,16 +130,16 @@ module _ (bytes : List ℕ) (p : Place) (start : p ≡ place true bytes) where
     at_start : name.at (place true bytes) ≡ Some (text, mid)
     at_start = ap name.at (sym start) ∙ read
 
-    pub short_long : mid.shortest ≡ false → IsRefusedAt (minimal_only custom_body) bytes 0
+    pub short_long : mid.minimal ≡ false → IsRefusedAt (minimal_only custom_body) bytes 0
     short_long long = no_name (Lawful-minimal_only name_is_lawful) (minimal_only custom_body) begins_with_short_name bytes (rw (at_start, long) refl)
 
     pub custom_there : IsBytes p.left → rest ≡ mid.left → custom_body.Encodes bytes (record { name = text; data_bytes = rest })
     unfolding custom_body
     custom_there fits is =
-        let q : custom_body.at (place true bytes) ≡ Some (custom_of (text, rest), place mid.shortest []) = rw (at_start, is) refl in
-        custom_is_lawful.reads.sound (place true bytes) (custom_of (text, rest)) (place mid.shortest []) (subst (λ (x : Place). IsBytes x.left) start fits) q refl
+        let q : custom_body.at (place true bytes) ≡ Some (custom_of (text, rest), place mid.minimal []) = rw (at_start, is) refl in
+        custom_is_lawful.reads.sound (place true bytes) (custom_of (text, rest)) (place mid.minimal []) (subst (λ (x : Place). IsBytes x.left) start fits) q refl
 
-    pub short_there : IsBytes p.left → rest ≡ mid.left → mid.shortest ≡ true → (minimal_only custom_body).Encodes bytes (record { name = text; data_bytes = rest })
+    pub short_there : IsBytes p.left → rest ≡ mid.left → mid.minimal ≡ true → (minimal_only custom_body).Encodes bytes (record { name = text; data_bytes = rest })
     unfolding custom_body
     short_there fits is short =
         let q : (minimal_only name).at (place true bytes) ≡ Some (text, place true mid.left) = rw (at_start, short) refl in
@@ -165,5 +166,5 @@ custom_in_range : (c : CustomParts) → name.InRange c.name → IsBytes c.data_b
 unfolding custom_body
 custom_in_range c fits are = ((fits, are), refl)
 
-pub custom_written : (c : CustomParts) → IsShortest name.Encodes name.bytes c.name → IsBytes c.data_bytes → IsShortest custom_body.Encodes custom_body.bytes c
-custom_written c named are = written custom_is_lawful.shortest c (custom_in_range c (in_range_of name name_is_lawful c.name named) are)
+pub custom_written : (c : CustomParts) → IsMinimal name.Encodes name.bytes c.name → IsBytes c.data_bytes → IsMinimal custom_body.Encodes custom_body.bytes c
+custom_written c named are = written custom_is_lawful.minimal c (custom_in_range c (in_range_of name name_is_lawful c.name named) are)

@@ -12,7 +12,7 @@ use Rattle.wasm_codec.specs.Reading.{◌>>=◌}
 use Rattle.wasm_codec.specs.Leb128.{unsigned_leb128, digits_of, complemented}
 use Rattle.wasm_codec.specs.Rewriter.{Rewriting, rewritten_at, rewriting_after, without, with_byte}
 use Rattle.wasm_codec.specs.formats.Numbers.{EncodesU32}
-use Rattle.wasm_codec.specs.Encoding.{IsCount, IsShortest}
+use Rattle.wasm_codec.specs.Encoding.{IsCount, IsMinimal}
 use Rattle.wasm_codec.proofs.FormatLaws.{takes_bytes, Lawful-never, Lawful-after, Lawful-made, Lawful-both, Lawful-u32, Lawful-items}
 use Rattle.wasm_codec.proofs.RewriterLaws.{is_given, is_after}
 use Rattle.wasm_codec.proofs.NumberLaws.{written}
@@ -444,18 +444,18 @@ element_there (modes.Active table offset) (held.Expressions ty es) fits hold = b
       let small : table < 2 ^ 32 = fits.0 (rw is refl) in
       rw is ((small, (fits.1, (typed, hold.1))), refl)
 
-pub element_written : (e : Element) (form : ℕ) (short : Bool) → form ≡ element_number e → short ≡ is_short form → (IsClosedMode e.mode → ElementModeFits form e.mode) → (AreClosed e.elements → ElementsFit short e.elements) → IsClosedElement e → IsShortest element_segment.Encodes element_segment.bytes e
+pub element_written : (e : Element) (form : ℕ) (short : Bool) → form ≡ element_number e → short ≡ is_short form → (IsClosedMode e.mode → ElementModeFits form e.mode) → (AreClosed e.elements → ElementsFit short e.elements) → IsClosedElement e → IsMinimal element_segment.Encodes element_segment.bytes e
 element_written e form short is shortly fits hold closed =
     let own : ElementsFit (is_short (element_number e)) e.elements = subst (λ (n : ℕ). ElementsFit (is_short n) e.elements) is (subst (λ (s : Bool). ElementsFit s e.elements) shortly (hold closed.1)) in
-    written element_is_lawful.shortest e (element_there e.mode e.elements (subst (λ (n : ℕ). ElementModeFits n e.mode) is (fits closed.0)) own)
+    written element_is_lawful.minimal e (element_there e.mode e.elements (subst (λ (n : ℕ). ElementModeFits n e.mode) is (fits closed.0)) own)
 
-pub element_mode_fits : (form : ℕ) (mode : ElementMode) (table : ℕ) (offset calls : List Instruction) → mode ≡ modes.Active table offset → calls ≡ offset → (is_short form ≡ false → table < 2 ^ 32) → (IsClosed calls → IsShortest expr.Encodes expr.bytes calls) → IsClosedMode mode → ElementModeFits form mode
+pub element_mode_fits : (form : ℕ) (mode : ElementMode) (table : ℕ) (offset calls : List Instruction) → mode ≡ modes.Active table offset → calls ≡ offset → (is_short form ≡ false → table < 2 ^ 32) → (IsClosed calls → IsMinimal expr.Encodes expr.bytes calls) → IsClosedMode mode → ElementModeFits form mode
 element_mode_fits form mode table offset calls is these small made closed =
-    let whole : IsClosed offset → IsShortest expr.Encodes expr.bytes offset = subst (λ (l : List Instruction). IsClosed l → IsShortest expr.Encodes expr.bytes l) these made in
+    let whole : IsClosed offset → IsMinimal expr.Encodes expr.bytes offset = subst (λ (l : List Instruction). IsClosed l → IsMinimal expr.Encodes expr.bytes l) these made in
     let ends : IsClosed offset = subst IsClosedMode is closed in
     subst (ElementModeFits form) (sym is) (small, in_expr offset (whole ends))
 
-pub functions_fit : (short : Bool) (elements : Elements) (fs given : List ℕ) → elements ≡ held.Functions fs → given ≡ fs → IsCount (length given) → All (IsShortest EncodesU32 unsigned_leb128) given → ElementsFit short elements
+pub functions_fit : (short : Bool) (elements : Elements) (fs given : List ℕ) → elements ≡ held.Functions fs → given ≡ fs → IsCount (length given) → All (IsMinimal EncodesU32 unsigned_leb128) given → ElementsFit short elements
 functions_fit short elements fs given is these few made =
     subst (ElementsFit short) (sym is) (subst (λ (l : List ℕ). (items u32).InRange l) these (few, all_in_range u32 Lawful-u32 given made))
 

@@ -6,7 +6,7 @@ use Rattle.wasm_codec.specs.Lawful.{IsLawful}
 use Rattle.wasm_codec.specs.formats.Combinators.{u32}
 use Rattle.wasm_codec.specs.Leb128.{unsigned_leb128}
 use Rattle.wasm_codec.specs.formats.Numbers.{EncodesU32}
-use Rattle.wasm_codec.specs.Encoding.{IsShortest}
+use Rattle.wasm_codec.specs.Encoding.{IsMinimal}
 use Rattle.wasm_codec.proofs.FormatLaws.{Every-after, Every-made, Lawful-after, Lawful-or-after, Lawful-or-else, Lawful-made, Lawful-both, Lawful-u32, takes_bytes}
 use Rattle.wasm_codec.proofs.NumberLaws.{written}
 use Rattle.wasm_types.specs.formats.Types.{ref_type, val_type, abstract_type}
@@ -76,8 +76,8 @@ export_there : (e : ExportParts) → name.InRange e.name → e.index < 2 ^ 32 �
 unfolding export_entry export_kind
 export_there e fits small = ((fits, (kind_there e.kind, small)), refl)
 
-pub export_written : (e : ExportParts) → IsShortest name.Encodes name.bytes e.name → IsShortest EncodesU32 unsigned_leb128 e.index → IsShortest export_entry.Encodes export_entry.bytes e
-export_written e h i = written export_is_lawful.shortest e (export_there e (in_name e.name h) (in_range_of u32 Lawful-u32 e.index i))
+pub export_written : (e : ExportParts) → IsMinimal name.Encodes name.bytes e.name → IsMinimal EncodesU32 unsigned_leb128 e.index → IsMinimal export_entry.Encodes export_entry.bytes e
+export_written e h i = written export_is_lawful.minimal e (export_there e (in_name e.name h) (in_range_of u32 Lawful-u32 e.index i))
 
 -- an export was appended part by part
 pub export_appended : (e : ExportParts) (old named kinded new : List ℕ) (byte : ℕ) → named ≡ old ++ name.bytes e.name → export_kind.bytes e.kind ≡ byte ∷ [] → kinded ≡ named ++ byte ∷ [] → new ≡ kinded ++ unsigned_leb128 e.index → new ≡ old ++ export_entry.bytes e
@@ -88,8 +88,8 @@ import_there : (i : ImportParts) → name.InRange i.module_name → name.InRange
 unfolding import_entry
 import_there i first second ty = ((first, (second, ty)), refl)
 
-pub import_written : (i : ImportParts) → IsShortest name.Encodes name.bytes i.module_name → IsShortest name.Encodes name.bytes i.field → IsShortest entity_type.Encodes entity_type.bytes i.ty → IsShortest import_entry.Encodes import_entry.bytes i
-import_written i first second ty = written import_is_lawful.shortest i (import_there i (in_name i.module_name first) (in_name i.field second) (in_range_of entity_type Lawful-entity-type i.ty ty))
+pub import_written : (i : ImportParts) → IsMinimal name.Encodes name.bytes i.module_name → IsMinimal name.Encodes name.bytes i.field → IsMinimal entity_type.Encodes entity_type.bytes i.ty → IsMinimal import_entry.Encodes import_entry.bytes i
+import_written i first second ty = written import_is_lawful.minimal i (import_there i (in_name i.module_name first) (in_name i.field second) (in_range_of entity_type Lawful-entity-type i.ty ty))
 
 pub import_appended : (i : ImportParts) (old one two new : List ℕ) → one ≡ old ++ name.bytes i.module_name → two ≡ one ++ name.bytes i.field → new ≡ two ++ entity_type.bytes i.ty → new ≡ old ++ import_entry.bytes i
 unfolding import_entry
@@ -105,10 +105,10 @@ global_there : (g : Global) → global_type.InRange g.ty → expr.InRange g.init
 unfolding global_entry
 global_there g ty init = ((ty, init), refl)
 
-pub global_entry_written : (g : Global) (calls : List Instruction) → calls ≡ g.init → IsShortest global_type.Encodes global_type.bytes g.ty → (IsClosed calls → IsShortest expr.Encodes expr.bytes calls) → IsClosedGlobal g → IsShortest global_entry.Encodes global_entry.bytes g
+pub global_entry_written : (g : Global) (calls : List Instruction) → calls ≡ g.init → IsMinimal global_type.Encodes global_type.bytes g.ty → (IsClosed calls → IsMinimal expr.Encodes expr.bytes calls) → IsClosedGlobal g → IsMinimal global_entry.Encodes global_entry.bytes g
 global_entry_written g calls these ty init closed =
-    let whole : IsClosed g.init → IsShortest expr.Encodes expr.bytes g.init = subst (λ (l : List Instruction). IsClosed l → IsShortest expr.Encodes expr.bytes l) these init in
-    written global_is_lawful.shortest g (global_there g (in_range_of global_type Lawful-global-type g.ty ty) (in_expr g.init (whole closed)))
+    let whole : IsClosed g.init → IsMinimal expr.Encodes expr.bytes g.init = subst (λ (l : List Instruction). IsClosed l → IsMinimal expr.Encodes expr.bytes l) these init in
+    written global_is_lawful.minimal g (global_there g (in_range_of global_type Lawful-global-type g.ty ty) (in_expr g.init (whole closed)))
 
 unfilled_there : (ty : TableType) → table_type.InRange ty → table_entry.InRange (unfilled ty)
 unfolding table_entry
@@ -122,17 +122,17 @@ pub unfilled_appended : (t : Table) (old new : List ℕ) → t.init ≡ None →
 unfolding table_entry
 unfilled_appended t old new is p = rw is p
 
-pub unfilled_written : (t : Table) → t.init ≡ None → IsShortest table_type.Encodes table_type.bytes t.ty → IsShortest table_entry.Encodes table_entry.bytes t
-unfilled_written t is h = subst (λ (o : Option (List Instruction)). IsShortest table_entry.Encodes table_entry.bytes (record { ty = t.ty; init = o })) (sym is)
-    (written table_is_lawful.shortest (unfilled t.ty) (unfilled_there t.ty (in_range_of table_type Lawful-table-type t.ty h)))
+pub unfilled_written : (t : Table) → t.init ≡ None → IsMinimal table_type.Encodes table_type.bytes t.ty → IsMinimal table_entry.Encodes table_entry.bytes t
+unfilled_written t is h = subst (λ (o : Option (List Instruction)). IsMinimal table_entry.Encodes table_entry.bytes (record { ty = t.ty; init = o })) (sym is)
+    (written table_is_lawful.minimal (unfilled t.ty) (unfilled_there t.ty (in_range_of table_type Lawful-table-type t.ty h)))
 
 pub filled_appended : (t : Table) (init calls : List Instruction) (old first second typed new : List ℕ) → t.init ≡ Some init → calls ≡ init → first ≡ old ++ 0x40 ∷ [] → second ≡ first ++ 0x00 ∷ [] → typed ≡ second ++ table_type.bytes t.ty → new ≡ typed ++ expr.bytes calls → new ≡ old ++ table_entry.bytes t
 unfolding table_entry
 filled_appended t init calls old first second typed new is these p q r s = rw (is, ← these) (four old (0x40 ∷ []) (0x00 ∷ []) (table_type.bytes t.ty) (expr.bytes calls) first second typed new p q r s)
 
-pub filled_written : (t : Table) (init calls : List Instruction) → t.init ≡ Some init → calls ≡ init → IsShortest table_type.Encodes table_type.bytes t.ty → (IsClosed calls → IsShortest expr.Encodes expr.bytes calls) → IsClosedTable t → IsShortest table_entry.Encodes table_entry.bytes t
+pub filled_written : (t : Table) (init calls : List Instruction) → t.init ≡ Some init → calls ≡ init → IsMinimal table_type.Encodes table_type.bytes t.ty → (IsClosed calls → IsMinimal expr.Encodes expr.bytes calls) → IsClosedTable t → IsMinimal table_entry.Encodes table_entry.bytes t
 filled_written t init calls is these ty made closed =
-    let whole : IsClosed init → IsShortest expr.Encodes expr.bytes init = subst (λ (l : List Instruction). IsClosed l → IsShortest expr.Encodes expr.bytes l) these made in
+    let whole : IsClosed init → IsMinimal expr.Encodes expr.bytes init = subst (λ (l : List Instruction). IsClosed l → IsMinimal expr.Encodes expr.bytes l) these made in
     let ends : IsClosed init = subst (λ (o : Option (List Instruction)). IfSome o IsClosed) is closed in
-    subst (λ (o : Option (List Instruction)). IsShortest table_entry.Encodes table_entry.bytes (record { ty = t.ty; init = o })) (sym is)
-    (written table_is_lawful.shortest (filled_of (t.ty, init)) (filled_there t.ty init (in_range_of table_type Lawful-table-type t.ty ty) (in_expr init (whole ends))))
+    subst (λ (o : Option (List Instruction)). IsMinimal table_entry.Encodes table_entry.bytes (record { ty = t.ty; init = o })) (sym is)
+    (written table_is_lawful.minimal (filled_of (t.ty, init)) (filled_there t.ty init (in_range_of table_type Lawful-table-type t.ty ty) (in_expr init (whole ends))))

@@ -2,7 +2,7 @@
 use Rattle.std.proofs.Common.{◌≡◌, ℕ, ◌<◌, ◌^◌, ◌⊎◌, List, length, inl, inr, Result, Ok, Err, OnOk, IfErr, refl, subst, arith}
 use Rattle.wasm_codec.specs.declared.encode.EncodeError.{EncodeError}
 use Rattle.wasm_codec.specs.declared.encode.EncodeError.TheVariants.{TooLong}
-use Rattle.wasm_codec.specs.Encoding.{byte_list_bytes, IsCount, IsShortest}
+use Rattle.wasm_codec.specs.Encoding.{byte_list_bytes, IsCount, IsMinimal}
 use Rattle.wasm_codec.specs.Leb128.{unsigned_leb128}
 use Rattle.wasm_codec.specs.formats.Numbers.{EncodesU32}
 use Rattle.wasm_codec.specs.Lawful.{IsLawful}
@@ -40,8 +40,8 @@ use Rattle.wasm_sections.specs.ListSections.{Adds, AddsIf, GainsItem, LawfulEntr
 
 -- ---- sections of one number
 
-pub number_written : (n : ℕ) → n < 2 ^ 32 → IsShortest u32.Encodes u32.bytes n
-number_written n fits = written Lawful-u32.shortest n fits
+pub number_written : (n : ℕ) → n < 2 ^ 32 → IsMinimal u32.Encodes u32.bytes n
+number_written n fits = written Lawful-u32.minimal n fits
 
 short_number : (n : ℕ) → n < 2 ^ 32 → IsCount (length (unsigned_leb128 n))
 unfolding EncodesU32

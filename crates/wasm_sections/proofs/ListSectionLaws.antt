@@ -6,7 +6,7 @@ use Rattle.std.proofs.lemmas.List.{length-map}
 use Rattle.std.proofs.lemmas.List.Elements.{All-nil, All-cons}
 use Rattle.wasm_codec.specs.declared.encode.EncodeError.{EncodeError}
 use Rattle.wasm_codec.specs.declared.encode.EncodeError.TheVariants.{TooLong}
-use Rattle.wasm_codec.specs.Encoding.{byte_list_bytes, IsCount, IsRefusal, IsShortest, IsShortestOrLonger, OnlyTooLong}
+use Rattle.wasm_codec.specs.Encoding.{byte_list_bytes, IsCount, IsRefusal, IsMinimal, IsMinimalOrLonger, OnlyTooLong}
 use Rattle.wasm_codec.specs.Lawful.{IsLawful}
 use Rattle.wasm_codec.specs.formats.Combinators.{Format, items}
 use Rattle.wasm_codec.proofs.FormatLaws.{Lawful-items}
@@ -29,7 +29,7 @@ module _ {V : Type 0} (B : Format V) (Stands : V → Type 0) (id : ℕ) (holding
   both_written (Ok x) counted = (encodes, λ values s. section_written holding B of values (body_bytes section) counted (encodes values s) (is values s))
   both_written (Err e) counted = tt
 
-  pub section_encodes : ((bytes : List ℕ) (values : V) → B.Encodes bytes values → IsShortestOrLonger bytes (B.bytes values)) → (old new : List ℕ) (r : Result (Unit {0}) EncodeError)
+  pub section_encodes : ((bytes : List ℕ) (values : V) → B.Encodes bytes values → IsMinimalOrLonger bytes (B.bytes values)) → (old new : List ℕ) (r : Result (Unit {0}) EncodeError)
       → OnOk r (new ≡ old ++ byte_list_bytes (body_bytes section)) → OnOk r (CountedSection section) → IfErr r (IsRefusal CountedSection OnlyTooLong section) → OnErr r (new ≡ old)
       → EncodesSection B Stands id holding section old new r
   section_encodes least old new r ok can refused err = record {
@@ -40,7 +40,7 @@ module _ {V : Type 0} (B : Format V) (Stands : V → Type 0) (id : ℕ) (holding
     err = err;
     is_body = is;
     encodes = encodes;
-    shortest = λ values bytes s g. rw (is values s) (least bytes values g);
+    minimal = λ values bytes s g. rw (is values s) (least bytes values g);
   }
 
 module _ {V : Type 0} (F : Format V) where
@@ -51,14 +51,14 @@ module _ {V : Type 0} (F : Format V) where
   section_is_body section values s = body_is F (λ item. Unit {0}) section values s
 
   module _ (law : IsLawful F) where
-    gains_item : (old new : EncodedItems) (item : V) → new.count ≡ old.count + 1 → new.bytes ≡ old.bytes ++ F.bytes item → IsShortest F.Encodes F.bytes item → GainsItem F old item new
+    gains_item : (old new : EncodedItems) (item : V) → new.count ≡ old.count + 1 → new.bytes ≡ old.bytes ++ F.bytes item → IsMinimal F.Encodes F.bytes item → GainsItem F old item new
     gains_item old new item count bytes written = gains_one F (λ item. Unit {0}) old new item count bytes tt (in_range_of F law item written)
 
-    gains_items : (old new : EncodedItems) (values : List V) → new.count ≡ old.count + length values → new.bytes ≡ old.bytes ++ flat_map F.bytes values → All (IsShortest F.Encodes F.bytes) values → GainsItems F old values new
+    gains_items : (old new : EncodedItems) (values : List V) → new.count ≡ old.count + length values → new.bytes ≡ old.bytes ++ flat_map F.bytes values → All (IsMinimal F.Encodes F.bytes) values → GainsItems F old values new
     gains_items old new values count more written = gains_each F (λ item. Unit {0}) old new values count more (any values) (all_in_range F law values written)
 
     body_encodes : (section : EncodedItems) → IsCount section.count → (values : List V) → StandsForItems F section values → (items F).Encodes (body_bytes section) values
-    body_encodes section few values s = rw (section_is_body section values s) ((Lawful-items law).shortest.encodes values (values_in_range F (λ item. Unit {0}) section values few s))
+    body_encodes section few values s = rw (section_is_body section values s) ((Lawful-items law).minimal.encodes values (values_in_range F (λ item. Unit {0}) section values few s))
 
 -- ---- what the methods of a section of items promise
 
@@ -78,9 +78,9 @@ module _ {T V : Type 0} {encoding : T → List ℕ} {IsWritten Fits : T → Type
   all_bytes [] = refl
   all_bytes (x ∷ xs) = ap (λ (t : List ℕ). t ++ flat_map encoding xs) (law.bytes x) ∙ ap (λ (t : List ℕ). S.format.bytes (view x) ++ t) (all_bytes xs)
 
-  pub all_written : (xs : List T) → All IsWritten xs → All Fits xs → All (IsShortest S.format.Encodes S.format.bytes) (map view xs)
-  all_written [] are fit = All-nil (IsShortest S.format.Encodes S.format.bytes)
-  all_written (x ∷ xs) are fit = All-cons (IsShortest S.format.Encodes S.format.bytes) (view x) (map view xs) (law.written x (are 0 x (omega arith)) (fit 0 x (omega arith))) (all_written xs (λ k d lt. are (suc k) d (omega (arith, lt))) (λ k d lt. fit (suc k) d (omega (arith, lt))))
+  pub all_written : (xs : List T) → All IsWritten xs → All Fits xs → All (IsMinimal S.format.Encodes S.format.bytes) (map view xs)
+  all_written [] are fit = All-nil (IsMinimal S.format.Encodes S.format.bytes)
+  all_written (x ∷ xs) are fit = All-cons (IsMinimal S.format.Encodes S.format.bytes) (view x) (map view xs) (law.written x (are 0 x (omega arith)) (fit 0 x (omega arith))) (all_written xs (λ k d lt. are (suc k) d (omega (arith, lt))) (λ k d lt. fit (suc k) d (omega (arith, lt))))
 
   each_gained : {X E : Type 0} (r : Result X E) (old new : EncodedItems) (xs : List T) → OnOk r (new.count ≡ old.count + length xs) → OnOk r (new.bytes ≡ old.bytes ++ flat_map S.format.bytes (map view xs)) → OnOk r (All IsWritten xs)
       → OnOk r (All Fits xs → GainsItems S.format old (map view xs) new)
@@ -100,4 +100,4 @@ module _ {T V : Type 0} {encoding : T → List ℕ} {IsWritten Fits : T → Type
       → EncodesItems S section old new r
   encodes_items was section old new r same few ok can refused err =
       subst (λ (list : EncodedItems). EncodesItems S list old new r) same
-      (section_encodes (items S.format) (StandsForItems S.format was) S.id S.holding law.body was (section_is_body S.format was) (body_encodes S.format law.lawful was few) (Lawful-items law.lawful).shortest.least old new r ok can refused err)
+      (section_encodes (items S.format) (StandsForItems S.format was) S.id S.holding law.body was (section_is_body S.format was) (body_encodes S.format law.lawful was few) (Lawful-items law.lawful).minimal.least old new r ok can refused err)

@@ -3,7 +3,7 @@ use Rattle.std.proofs.Common.{◌≡◌, ℕ, ◌<◌, ◌==◌, true, false, Li
 use Rattle.std.specs.List.{AllByRecursion}
 use Rattle.std.proofs.lemmas.Bool.{ne_eqb}
 use Rattle.std.proofs.lemmas.List.{append-nil}
-use Rattle.wasm_codec.specs.Decoding.{IsMinimal}
+use Rattle.wasm_codec.specs.Decoding.{TakesMinimal}
 use Rattle.wasm_codec.specs.Lawful.{IsLawful, IsLawfulBody}
 use Rattle.wasm_codec.specs.Outcomes.{FailsMalformed, IfInItem}
 use Rattle.wasm_codec.specs.Places.{Place, byte_at, map_at, place, Reads, keeps}
@@ -13,7 +13,7 @@ use Rattle.wasm_codec.specs.formats.Grammar.{TakesBytes}
 use Rattle.wasm_codec.specs.declared.reader.cursor.Fault.{Fault}
 use Rattle.wasm_codec.specs.Reading.{map_ok}
 use Rattle.wasm_codec.specs.Rewriter.{Rewriting, rewritten_at, Rewrites}
-use Rattle.wasm_codec.specs.Encoding.{byte_list_bytes, IsCount, IsShortest}
+use Rattle.wasm_codec.specs.Encoding.{byte_list_bytes, IsCount, IsMinimal}
 use Rattle.wasm_codec.specs.Leb128.{unsigned_leb128}
 use Rattle.wasm_codec.specs.declared.reader.cursor.Fault.TheVariants as faults
 use Rattle.wasm_codec.proofs.BodyLaws.{Lawful-body, Lawful-sized}
@@ -26,12 +26,12 @@ use Rattle.wasm_types.specs.formats.Types.{recursive_type}
 use Rattle.wasm_types.proofs.TypeFormatLaws.{Lawful-recursive-type}
 use Rattle.wasm_code.specs.formats.CodeBodies.{code_body}
 use Rattle.wasm_code.proofs.CodeBodyLaws.{Lawful-code_body}
-use Rattle.wasm_code.proofs.ModuleFormatLaws.{Lawful-module-of, is_shortest_module_of}
+use Rattle.wasm_code.proofs.ModuleFormatLaws.{Lawful-module-of, is_minimal_module_of}
 use Rattle.wasm_sections.specs.formats.Elements.{element_segment}
 use Rattle.wasm_sections.specs.formats.Entries.{import_entry, table_entry, global_entry, export_entry}
 use Rattle.wasm_externals.specs.formats.Externals.{memory_type, tag_type}
 use Rattle.wasm_sections.specs.formats.ModuleSectionParts.{ModuleSectionParts, section_id, custom, types, imports, functions, tables, memories, globals, exports, start, elements, code, data_segments, data_count, tags, custom_part, type_entries_part, imports_part, function_indexes_part, tables_part, memories_part, globals_part, exports_part, start_part, elements_part, code_part, data_segments_part, data_count_part, tags_part}
-use Rattle.wasm_sections.specs.formats.ModuleSections.{BreaksInList, BreaksInSection, module_section, whole_module, ShortestWholeModule, one_of, list_of, OfKind, of_custom, of_types, of_imports, of_functions, of_tables, of_memories, of_globals, of_exports, of_start, of_elements, of_code, of_data, of_data_count, of_tags, of_unknown}
+use Rattle.wasm_sections.specs.formats.ModuleSections.{BreaksInList, BreaksInSection, module_section, whole_module, MinimalWholeModule, one_of, list_of, OfKind, of_custom, of_types, of_imports, of_functions, of_tables, of_memories, of_globals, of_exports, of_start, of_elements, of_code, of_data, of_data_count, of_tags, of_unknown}
 use Rattle.wasm_sections.specs.formats.Sections.{custom_body, custom_of}
 use Rattle.wasm_sections.specs.formats.Segments.{data_segment}
 use Rattle.wasm_sections.specs.formats.EntryParts.{CustomParts}
@@ -75,12 +75,12 @@ module_section_takes = takes_bytes module_section_is_lawful refl
 pub whole_module_is_lawful : IsLawfulBody whole_module
 whole_module_is_lawful = Lawful-module-of module_section_is_lawful module_section_takes
 
-pub whole_module_is_minimal : IsMinimal whole_module ShortestWholeModule
-whole_module_is_minimal = is_shortest_module_of module_section_is_lawful
+pub whole_module_is_minimal : TakesMinimal whole_module MinimalWholeModule
+whole_module_is_minimal = is_minimal_module_of module_section_is_lawful
 
--- the shortest encoding of sections in range encodes them
+-- the minimal encoding of sections in range encodes them
 pub whole_module_encoded : (bytes : List ℕ) (sections : List ModuleSectionParts) → AllByRecursion module_section.InRange sections → bytes ≡ whole_module.bytes sections → whole_module.Encodes bytes sections
-whole_module_encoded bytes sections fits e = subst (λ (t : List ℕ). whole_module.Encodes t sections) (sym e) (whole_module_is_lawful.shortest.encodes sections fits)
+whole_module_encoded bytes sections fits e = subst (λ (t : List ℕ). whole_module.Encodes t sections) (sym e) (whole_module_is_lawful.minimal.encodes sections fits)
 
 -- ---- the kinds
 
@@ -264,16 +264,16 @@ nothing_left : (bytes : List ℕ) → length bytes ≤ 0 → bytes ≡ []
 nothing_left [] none = refl
 nothing_left (b ∷ bytes) none = absurd (omega arith)
 
-module _ (old outer body : Place) (is_body : body_at old ≡ Some (body.left, outer)) (tells : body ≡ place outer.shortest body.left) where
+module _ (old outer body : Place) (is_body : body_at old ≡ Some (body.left, outer)) (tells : body ≡ place outer.minimal body.left) where
   -- a value that is all of the body
-  pub body_read : {V : Type 0} (F : Format V) (end : Place) (v : V) (len : ℕ) → F.at body ≡ Some (v, end) → len ≡ length end.left → len ≤ 0 → (sized F).at old ≡ Some (v, place end.shortest outer.left)
+  pub body_read : {V : Type 0} (F : Format V) (end : Place) (v : V) (len : ℕ) → F.at body ≡ Some (v, end) → len ≡ length end.left → len ≤ 0 → (sized F).at old ≡ Some (v, place end.minimal outer.left)
   body_read F end v len e counted none = sized_read F old outer end body.left v is_body (ap F.at (sym tells) ∙ e) (nothing_left end.left (omega (arith, counted, none)))
 
-  pub custom_read : (mid : Place) (text rest : List ℕ) → name.at body ≡ Some (text, mid) → rest ≡ mid.left → (sized custom_body).at old ≡ Some (custom_of (text, rest), place mid.shortest outer.left)
+  pub custom_read : (mid : Place) (text rest : List ℕ) → name.at body ≡ Some (text, mid) → rest ≡ mid.left → (sized custom_body).at old ≡ Some (custom_of (text, rest), place mid.minimal outer.left)
   unfolding custom_body
   custom_read mid text rest e is =
-      let inside : custom_body.at (place outer.shortest body.left) ≡ Some (custom_of (text, rest), place mid.shortest []) = ap custom_body.at (sym tells) ∙ rw (e, is) refl in
-      sized_read custom_body old outer (place mid.shortest []) body.left (custom_of (text, rest)) is_body inside refl
+      let inside : custom_body.at (place outer.minimal body.left) ≡ Some (custom_of (text, rest), place mid.minimal []) = ap custom_body.at (sym tells) ∙ rw (e, is) refl in
+      sized_read custom_body old outer (place mid.minimal []) body.left (custom_of (text, rest)) is_body inside refl
 
   pub no_custom : {X : Type 0} (view : X → CustomParts) (here new : Place) (fault : Fault) → Reads name.at body here (Err fault) → Reads (sized custom_body).at old new (map_ok view (Err fault))
   no_custom view here new (faults.Malformed m) none = sized_none custom_body old outer body.left is_body (ap custom_body.at (sym tells) ∙ custom_refused body none)
@@ -296,10 +296,10 @@ is_body_of {V} {id} {section} {F} kind v bytes g =
     let one = module_section_is_lawful.reads.sound here (section v) end (kind.small, law.are_bytes bytes v g.0) read in
     (subst (λ (l : List ℕ). module_section.Encodes l (section v)) (sym (one.parts ∙ append-nil one.prefix)) one.encodes, ap (λ (l : List ℕ). id ∷ l) g.1 ∙ sym (kind.bytes_are v))
 
--- the shortest encoding of a body that a u32 counts, after its size and the id, is the section
+-- the minimal encoding of a body that a u32 counts, after its size and the id, is the section
 pub section_written : {V : Type 0} {id : ℕ} (section : V → ModuleSectionParts) (F : Format V) → IsBodyOf id section F → (v : V) (body : List ℕ) → IsCount (length body) → F.Encodes body v → body ≡ F.bytes v → IsSectionAfter id (byte_list_bytes body) (section v)
 section_written section F of v body few g is = of v (byte_list_bytes body) ((unsigned_leb128 (length body), body, refl, (u32_written (length body) few).encodes, g), ap byte_list_bytes is)
 
-pub custom_section_written : {T E : Type 0} (r : Result T E) (c : CustomParts) → IsCount (length (custom_body.bytes c)) → OnOk r (IsShortest custom_body.Encodes custom_body.bytes c) → OnOk r (IsSectionAfter 0 (byte_list_bytes (custom_body.bytes c)) (custom c))
+pub custom_section_written : {T E : Type 0} (r : Result T E) (c : CustomParts) → IsCount (length (custom_body.bytes c)) → OnOk r (IsMinimal custom_body.Encodes custom_body.bytes c) → OnOk r (IsSectionAfter 0 (byte_list_bytes (custom_body.bytes c)) (custom c))
 custom_section_written (Ok x) c few h = section_written custom custom_body (is_body_of custom_kind) c (custom_body.bytes c) few h.encodes refl
 custom_section_written (Err e) c few h = tt

@@ -14,13 +14,9 @@ use Rattle.wasm_code.proofs.ModuleFormatLaws.{Lawful-raw-section}
 use Rattle.wasm_sections.specs.formats.EntryParts.{CustomParts}
 use Rattle.wasm_sections.specs.formats.Sections.{custom_body}
 use Rattle.wasm_sections.specs.formats.ModuleSectionParts.{ModuleSectionParts, custom, types, imports, functions, tables, memories, globals, exports, start, elements, code, data_segments, data_count, tags}
-use Rattle.wasm_sections.specs.formats.ModuleSections.{module_section, whole_module, ShortestWholeModule}
+use Rattle.wasm_sections.specs.formats.ModuleSections.{IsMinimalSection, module_section, whole_module, MinimalWholeModule}
 use Rattle.wasm_sections.proofs.CustomLaws.{custom_is_lawful}
 use Rattle.wasm_sections.proofs.ModuleSectionLaws.{IsKind, module_section_is_lawful, whole_module_is_lawful, whole_module_is_minimal, custom_kind, types_kind, imports_kind, functions_kind, tables_kind, memories_kind, globals_kind, exports_kind, start_kind, elements_kind, code_kind, data_segments_kind, data_count_kind, tags_kind}
-
--- the section is the minimal encoding of some section with its content
-abbrev pub IsMinimalSection : SectionParts → Type 0
-IsMinimalSection section = EncodesSome (minimal_only module_section).Encodes (raw_section.bytes section)
 
 -- ---- one section
 
@@ -39,7 +35,7 @@ of_kind {V} {id} {make} {F} k v bytes g short =
     let body : IsBytes (F.bytes v) = IsBytes-back (unsigned_leb128 (length (F.bytes v))) (F.bytes v) all.1 in
     record {
       section = section;
-      encodes = subst (λ (b : List ℕ). raw_section.Encodes b section) (sym is) (Lawful-raw-section.shortest.encodes section ((k.small, (body, short)), refl));
+      encodes = subst (λ (b : List ℕ). raw_section.Encodes b section) (sym is) (Lawful-raw-section.minimal.encodes section ((k.small, (body, short)), refl));
       written = is;
     }
 
@@ -102,12 +98,12 @@ custom_minimal s c fits minimal id g =
     let only = custom_only minimal.0 rest (sym minimal.1.1 ∙ ap (λ (n : ℕ). n ∷ rest) id) in
     let made : (minimal_only module_section).Encodes whole (custom only.parts) = subst (λ (m : ModuleSectionParts). (minimal_only module_section).Encodes whole m) only.is minimal.1 in
     let range = in_custom_range only.parts (module_section_is_lawful.in_range whole (custom only.parts) made.0) in
-    let bare = custom_is_lawful.shortest.encodes only.parts range.0 in
+    let bare = custom_is_lawful.minimal.encodes only.parts range.0 in
     let t : SectionParts = record { id = 0; body = custom_body.bytes only.parts } in
     let is : whole ≡ raw_section.bytes t = made.1 ∙ custom_kind.bytes_are only.parts in
     let t_fits : raw_section.InRange t = ((custom_kind.small, (custom_is_lawful.are_bytes t.body only.parts bare, range.1)), refl) in
-    let t_encodes : raw_section.Encodes whole t = subst (λ (b : List ℕ). raw_section.Encodes b t) (sym is) (Lawful-raw-section.shortest.encodes t t_fits) in
-    let same : s ≡ t = encodes_one (Lawful-body Lawful-raw-section) whole s t (Lawful-raw-section.shortest.encodes s fits) t_encodes in
+    let t_encodes : raw_section.Encodes whole t = subst (λ (b : List ℕ). raw_section.Encodes b t) (sym is) (Lawful-raw-section.minimal.encodes t t_fits) in
+    let same : s ≡ t = encodes_one (Lawful-body Lawful-raw-section) whole s t (Lawful-raw-section.minimal.encodes s fits) t_encodes in
     let body : s.body ≡ custom_body.bytes only.parts = ap (λ (x : SectionParts). x.body) same in
     let again = subst (λ (b : List ℕ). custom_body.Encodes b only.parts) (sym body) bare in
     body ∙ ap custom_body.bytes (sym (encodes_one custom_is_lawful s.body c only.parts g again))
@@ -133,7 +129,7 @@ joined_raw bytes (s ∷ parts) g =
       minimal = ((s, subst (λ (b : List ℕ). (minimal_only module_section).Encodes b s) one.written g.3), more.minimal);
     }
 
-pub raw_sections : (bytes : List ℕ) → EncodesSome ShortestWholeModule bytes → HasRaw raw_module.Encodes raw_module.bytes bytes
+pub raw_sections : (bytes : List ℕ) → EncodesSome MinimalWholeModule bytes → HasRaw raw_module.Encodes raw_module.bytes bytes
 raw_sections bytes g =
     let r = joined_raw g.1.0 g.0 g.1.2 in
     record { sections = r.sections; encodes = (g.1.0, g.1.1, r.encodes); written = g.1.1 ∙ ap (λ (b : List ℕ). header ++ b) r.written; minimal = r.minimal }
@@ -145,19 +141,19 @@ joined_whole (s ∷ sections) minimal =
     (minimal.0.0 ∷ more.0, (raw_section.bytes s, flat_map raw_section.bytes sections, refl, minimal.0.1, more.1))
 
 -- minimally encoded sections are a minimally encoded module
-pub whole_again : (sections : List SectionParts) → AllByRecursion IsMinimalSection sections → EncodesSome ShortestWholeModule (raw_module.bytes sections)
+pub whole_again : (sections : List SectionParts) → AllByRecursion IsMinimalSection sections → EncodesSome MinimalWholeModule (raw_module.bytes sections)
 whole_again sections minimal =
     let all = joined_whole sections minimal in
     (all.0, (flat_map raw_section.bytes sections, refl, all.1))
 
 -- ---- canonical forms
 
-pub normal_minimal : (bytes encoding : List ℕ) → IsNormalForm whole_module.Encodes whole_module.bytes bytes encoding → EncodesSome ShortestWholeModule encoding
+pub normal_minimal : (bytes encoding : List ℕ) → IsNormalForm whole_module.Encodes whole_module.bytes bytes encoding → EncodesSome MinimalWholeModule encoding
 normal_minimal bytes encoding form =
-    let again = whole_module_is_lawful.shortest.again bytes form.value form.encoded in
-    (form.value, (whole_module_is_minimal encoding form.value).1 (subst (λ (b : List ℕ). whole_module.Encodes b form.value) (sym form.is_shortest) again, form.is_shortest))
+    let again = whole_module_is_lawful.minimal.again bytes form.value form.encoded in
+    (form.value, (whole_module_is_minimal encoding form.value).1 (subst (λ (b : List ℕ). whole_module.Encodes b form.value) (sym form.is_minimal) again, form.is_minimal))
 
-pub minimal_normal : (bytes : List ℕ) → EncodesSome ShortestWholeModule bytes → IsNormalForm whole_module.Encodes whole_module.bytes bytes bytes
+pub minimal_normal : (bytes : List ℕ) → EncodesSome MinimalWholeModule bytes → IsNormalForm whole_module.Encodes whole_module.bytes bytes bytes
 minimal_normal bytes g =
     let both = (whole_module_is_minimal bytes g.0).0 g.1 in
-    record { value = g.0; encoded = both.0; is_shortest = both.1 }
+    record { value = g.0; encoded = both.0; is_minimal = both.1 }

@@ -9,7 +9,7 @@ use Rattle.wasm_codec.specs.formats.Bodies.{byte_list}
 use Rattle.wasm_codec.specs.Leb128.{unsigned_leb128, digits_of}
 use Rattle.wasm_codec.specs.Places.{Place, place, unless}
 use Rattle.wasm_codec.specs.Rewriter.{Rewriting, rewritten_at, rewriting_after, without}
-use Rattle.wasm_codec.specs.Encoding.{byte_list_bytes, IsCount, IsShortest}
+use Rattle.wasm_codec.specs.Encoding.{byte_list_bytes, IsCount, IsMinimal}
 use Rattle.wasm_codec.proofs.FormatLaws.{takes_bytes, not_longer, Lawful-never, Lawful-made, Lawful-both, Lawful-u32}
 use Rattle.wasm_codec.proofs.BodyLaws.{Lawful-byte-list}
 use Rattle.wasm_codec.proofs.RewriterLaws.{is_given, is_after, after_is}
@@ -32,7 +32,7 @@ use Rattle.wasm_externals.proofs.ExternalLaws.{two}
 pub left_out : {A : Type 0} {F : Format A} → IsLawful F → (bytes : List ℕ) (n : ℕ) (a : A) → (u32 ⊗ F).Encodes bytes (n, a) → F.InRange a × (length (F.bytes a) < length bytes)
 left_out {A} {F} r bytes n a g =
     let some = number_takes g.0 n g.3 in
-    let least = not_longer g.1 (F.bytes a) (r.shortest.least g.1 a g.4) in
+    let least = not_longer g.1 (F.bytes a) (r.minimal.least g.1 a g.4) in
     (r.in_range g.1 a g.4, omega (arith, some, least, ap (length {A = ℕ}) g.2, length-append g.0 g.1))
 
 Lawful-data-form : (n : ℕ) → IsLawful (data_form n)
@@ -80,13 +80,13 @@ no_data_form (suc (suc zero)) p a b c = absurd (c refl)
 no_data_form (suc (suc (suc n))) p a b c = refl
 
 unless_true : (p : Place) → unless true p ≡ place false p.left
-unless_true p = ap (λ (s : Bool). place s p.left) (and_false p.shortest) where
+unless_true p = ap (λ (s : Bool). place s p.left) (and_false p.minimal) where
   and_false : (b : Bool) → (b && false) ≡ false
   and_false true = refl
   and_false false = refl
 
 unless_false : (p : Place) → unless false p ≡ p
-unless_false p = ap (λ (s : Bool). place s p.left) (and_true p.shortest) where
+unless_false p = ap (λ (s : Bool). place s p.left) (and_true p.minimal) where
   and_true : (b : Bool) → (b && true) ≡ b
   and_true true = refl
   and_true false = refl
@@ -166,9 +166,9 @@ number_there old start mid end memory mark begun named e at =
 
 -- ---- data segments
 
-pub data_mode_fits : (mode : DataSegmentMode) (memory : ℕ) (offset calls : List Instruction) → mode ≡ data_modes.Active memory offset → calls ≡ offset → memory < 2 ^ 32 → (IsClosed calls → IsShortest expr.Encodes expr.bytes calls) → IsClosedData mode → DataModeFits mode
+pub data_mode_fits : (mode : DataSegmentMode) (memory : ℕ) (offset calls : List Instruction) → mode ≡ data_modes.Active memory offset → calls ≡ offset → memory < 2 ^ 32 → (IsClosed calls → IsMinimal expr.Encodes expr.bytes calls) → IsClosedData mode → DataModeFits mode
 data_mode_fits mode memory offset calls is these small made closed =
-    let whole : IsClosed offset → IsShortest expr.Encodes expr.bytes offset = subst (λ (l : List Instruction). IsClosed l → IsShortest expr.Encodes expr.bytes l) these made in
+    let whole : IsClosed offset → IsMinimal expr.Encodes expr.bytes offset = subst (λ (l : List Instruction). IsClosed l → IsMinimal expr.Encodes expr.bytes l) these made in
     let ends : IsClosed offset = subst IsClosedData is closed in
     subst DataModeFits (sym is) (small, in_expr offset (whole ends))
 
@@ -197,5 +197,5 @@ data_there (data_modes.Active memory offset) bytes fits are few = by (eqb memory
   by true is = rw is ((fits.1, (are, few)), ap (λ (m : ℕ). record { mode = data_modes.Active m offset; data_bytes = bytes }) (sym (eqb-true memory 0 is)))
   by false is = rw is ((fits.0, (fits.1, (are, few))), refl)
 
-pub data_written : (d : DataParts) → (IsClosedData d.mode → DataModeFits d.mode) → IsBytes d.data_bytes → IsCount (length d.data_bytes) → IsClosedData d.mode → IsShortest data_segment.Encodes data_segment.bytes d
-data_written d fits are few closed = written data_is_lawful.shortest d (data_there d.mode d.data_bytes (fits closed) are few)
+pub data_written : (d : DataParts) → (IsClosedData d.mode → DataModeFits d.mode) → IsBytes d.data_bytes → IsCount (length d.data_bytes) → IsClosedData d.mode → IsMinimal data_segment.Encodes data_segment.bytes d
+data_written d fits are few closed = written data_is_lawful.minimal d (data_there d.mode d.data_bytes (fits closed) are few)

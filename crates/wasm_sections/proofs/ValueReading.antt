@@ -18,7 +18,8 @@ use Rattle.wasm_codec.proofs.FormatLaws.{Lawful-u32}
 use Rattle.wasm_codec.proofs.PlaceLists.{Lawful-minimal_only}
 use Rattle.wasm_codec.proofs.BodyLaws.{Lawful-body}
 use Rattle.wasm_codec.proofs.RewriterLaws.{is_after}
-use Rattle.wasm_sections.specs.Prefixes.{IsNothingOr, IsRefusedAt, AreLawfulPrefixes}
+use Rattle.wasm_code.specs.DecodedPrefixes.{IsNothingOr}
+use Rattle.wasm_sections.specs.Prefixes.{IsRefusedAt, AreLawfulPrefixes}
 
 -- rewriting needs no memory
 pub rewrites_malformed : {V : Type 0} (F : Format V) (old new : Rewriting) (fault : Fault) → Rewrites F old new (Err fault) → IsMalformed fault
@@ -90,12 +91,12 @@ number_prefixes = prefixes_lawful Lawful-u32
 pub number_is_lawful : IsLawfulBody u32
 number_is_lawful = Lawful-body Lawful-u32
 
--- ---- numbers in their shortest encodings
+-- ---- numbers in their minimal encodings
 
-pub minimal_only_read : (bytes : List ℕ) (n : ℕ) (q : Place) → u32_at (place true bytes) ≡ Some (n, q) → q.shortest ≡ true → (minimal_only u32).at (place true bytes) ≡ Some (n, q)
+pub minimal_only_read : (bytes : List ℕ) (n : ℕ) (q : Place) → u32_at (place true bytes) ≡ Some (n, q) → q.minimal ≡ true → (minimal_only u32).at (place true bytes) ≡ Some (n, q)
 minimal_only_read bytes n q read short = rw (read, short) refl
 
-pub minimal_only_long : (bytes : List ℕ) (n : ℕ) (q : Place) → u32_at (place true bytes) ≡ Some (n, q) → q.shortest ≡ false → (minimal_only u32).at (place true bytes) ≡ None
+pub minimal_only_long : (bytes : List ℕ) (n : ℕ) (q : Place) → u32_at (place true bytes) ≡ Some (n, q) → q.minimal ≡ false → (minimal_only u32).at (place true bytes) ≡ None
 minimal_only_long bytes n q read long = rw (read, long) refl
 
 pub minimal_only_none : (bytes : List ℕ) → u32_at (place true bytes) ≡ None → (minimal_only u32).at (place true bytes) ≡ None
@@ -131,13 +132,13 @@ module _ (bytes : List ℕ) (p : Place) (start : p ≡ place true bytes) where
   pub short_wanting : (new : Place) (fault : Fault) → Reads u32_at p new (Err fault) → IsMalformed fault → IsRefusedAt (minimal_only u32) bytes 0
   short_wanting new fault none is = nothing_there (Lawful-minimal_only Lawful-u32) bytes (minimal_only_none bytes (ap u32_at (sym start) ∙ no_u32 p new fault none is))
 
-  pub short_long : (n : ℕ) (q : Place) → u32_at p ≡ Some (n, q) → q.shortest ≡ false → IsRefusedAt (minimal_only u32) bytes 0
+  pub short_long : (n : ℕ) (q : Place) → u32_at p ≡ Some (n, q) → q.minimal ≡ false → IsRefusedAt (minimal_only u32) bytes 0
   short_long n q read long = nothing_there (Lawful-minimal_only Lawful-u32) bytes (minimal_only_long bytes n q (read_there n q read) long)
 
-  pub short_left_over : (n at : ℕ) (q : Place) → IsBytes p.left → u32_at p ≡ Some (n, q) → q.shortest ≡ true → 0 < length q.left → at ≡ length bytes - length q.left → IsRefusedAt (minimal_only u32) bytes at
+  pub short_left_over : (n at : ℕ) (q : Place) → IsBytes p.left → u32_at p ≡ Some (n, q) → q.minimal ≡ true → 0 < length q.left → at ≡ length bytes - length q.left → IsRefusedAt (minimal_only u32) bytes at
   short_left_over n at q fits read short some is = subst (IsRefusedAt (minimal_only u32) bytes) (sym is) (left_over (Lawful-minimal_only Lawful-u32) bytes n q (are_bytes fits) (minimal_only_read bytes n q (read_there n q read) short) some)
 
-  pub short_there : (n : ℕ) (q : Place) → IsBytes p.left → u32_at p ≡ Some (n, q) → q.shortest ≡ true → length q.left ≤ 0 → (minimal_only u32).Encodes bytes n
+  pub short_there : (n : ℕ) (q : Place) → IsBytes p.left → u32_at p ≡ Some (n, q) → q.minimal ≡ true → length q.left ≤ 0 → (minimal_only u32).Encodes bytes n
   short_there n q fits read short none = all_there (Lawful-minimal_only Lawful-u32) bytes n q (are_bytes fits) (minimal_only_read bytes n q (read_there n q read) short) none
 
 -- ---- rewriting
@@ -179,7 +180,7 @@ module _ {V : Type 0} {F : Format V} (r : IsLawfulBody F) (t : AreLawfulPrefixes
         record {
           value = one.value;
           encoded = r.reads.sound (place true bytes) one.value new.place all_bytes (read one.value one.given.is_read) (no_bytes new.place.left none);
-          is_shortest = one.given.written ∙ ap (λ (r : Rewriting). r.done ++ F.bytes one.value) begun;
+          is_minimal = one.given.written ∙ ap (λ (r : Rewriting). r.done ++ F.bytes one.value) begun;
         }
       where
         no_bytes : (l : List ℕ) → length l ≤ 0 → l ≡ []

@@ -5,7 +5,7 @@ use Rattle.std.proofs.lemmas.List.Elements.{All-nil, All-cons}
 use Rattle.std.proofs.lemmas.List.{length-map, map-id}
 use Rattle.wasm_codec.specs.declared.encode.EncodeError.{EncodeError}
 use Rattle.wasm_codec.specs.declared.encode.EncodeError.TheVariants.{Memory, TooLong}
-use Rattle.wasm_codec.specs.Encoding.{byte_list_bytes, IsCount, IsRefusal, IsShortest, OnlyTooLong}
+use Rattle.wasm_codec.specs.Encoding.{byte_list_bytes, IsCount, IsRefusal, IsMinimal, OnlyTooLong}
 use Rattle.wasm_codec.specs.Leb128.{unsigned_leb128}
 use Rattle.wasm_codec.specs.Lists.{items_bytes}
 use Rattle.wasm_codec.specs.formats.Bodies.{sized}
@@ -66,7 +66,7 @@ content_after_id (tags ts) = refl
 pub written_again : (section : ModuleSectionParts) (bytes : List ℕ) → module_section.Encodes bytes section → IsWrittenContent section
 written_again section bytes g =
     let is = content_after_id section in
-    (subst (λ (b : List ℕ). module_section.Encodes b section) is (module_section_is_lawful.shortest.again bytes section g), sym is)
+    (subst (λ (b : List ℕ). module_section.Encodes b section) is (module_section_is_lawful.minimal.again bytes section g), sym is)
 
 -- ---- lists of items
 
@@ -88,7 +88,7 @@ module _ {T V : Type 0} {encoding : T → List ℕ} {IsWritten Fits : T → Type
   list_written : (Can : T → Type 0) (xs : List T) → CountedList encoding Can xs → All IsWritten xs → All Fits xs → IsWrittenContent (S.holding (map view xs))
   list_written Can xs can written fit =
       let values = map view xs in
-      let encoded = (Lawful-items law.lawful).shortest.encodes values (in_range xs can.0.0 written fit) in
+      let encoded = (Lawful-items law.lawful).minimal.encodes values (in_range xs can.0.0 written fit) in
       let few : IsCount (length ((items S.format).bytes values)) = subst (λ (t : List ℕ). IsCount (length t)) (sym (body_is xs)) can.1 in
       let after : IsSectionAfter S.id (byte_list_bytes ((items S.format).bytes values)) (S.holding values) = section_written S.holding (items S.format) law.body values ((items S.format).bytes values) few encoded refl in
       written_again (S.holding values) (S.id ∷ byte_list_bytes ((items S.format).bytes values)) after.0
@@ -212,37 +212,37 @@ Gives {T} encoding Can IsWritten refuses make =
 abbrev NoError : {T : Type 0} → T → EncodeError → Type 0
 NoError x e = ⊥
 
-pub types_encoded : Gives recursive_type.bytes CountedEntry (IsShortest recursive_type.Encodes recursive_type.bytes) OnlyTooLong sections.Types
+pub types_encoded : Gives recursive_type.bytes CountedEntry (IsMinimal recursive_type.Encodes recursive_type.bytes) OnlyTooLong sections.Types
 types_encoded = list_encoded types_lawful types_kind CountedEntry OnlyTooLong (λ x e is. is) sections.Types (λ ys. ap types (sym (map-id ys))) (λ ys can. can) (λ ys can. can) (λ ys closed k d lt. tt)
 
-pub imports_encoded : Gives (λ i. import_entry.bytes (import_parts i)) (λ i. IsCount (length i.module.now) × IsCount (length i.field.now)) (λ i. IsShortest import_entry.Encodes import_entry.bytes (import_parts i)) OnlyTooLong sections.Imports
+pub imports_encoded : Gives (λ i. import_entry.bytes (import_parts i)) (λ i. IsCount (length i.module.now) × IsCount (length i.field.now)) (λ i. IsMinimal import_entry.Encodes import_entry.bytes (import_parts i)) OnlyTooLong sections.Imports
 imports_encoded = list_encoded imports_lawful imports_kind (λ i. IsCount (length i.module.now) × IsCount (length i.field.now)) OnlyTooLong (λ x e is. is) sections.Imports (λ ys. refl) (λ ys can. can) (λ ys can. can) (λ ys closed k d lt. tt)
 
-pub functions_encoded : Gives u32.bytes Always (IsShortest u32.Encodes u32.bytes) NoError sections.Functions
+pub functions_encoded : Gives u32.bytes Always (IsMinimal u32.Encodes u32.bytes) NoError sections.Functions
 functions_encoded = list_encoded functions_lawful functions_kind Always NoError (λ x e no. absurd no) sections.Functions (λ ys. ap functions (sym (map-id ys))) (λ ys can. can) (λ ys can. can) (λ ys closed k d lt. tt)
 
-pub tables_encoded : Gives table_entry.bytes IsCountedTable (λ t. IsClosedTable t → IsShortest table_entry.Encodes table_entry.bytes t) OnlyTooLong sections.Tables
+pub tables_encoded : Gives table_entry.bytes IsCountedTable (λ t. IsClosedTable t → IsMinimal table_entry.Encodes table_entry.bytes t) OnlyTooLong sections.Tables
 tables_encoded = list_encoded tables_lawful tables_kind IsCountedTable OnlyTooLong (λ x e is. is) sections.Tables (λ ys. ap tables (sym (map-id ys))) (λ ys can. can) (λ ys can. can) (λ ys closed. closed)
 
-pub memories_encoded : Gives memory_type.bytes Always (IsShortest memory_type.Encodes memory_type.bytes) NoError sections.Memories
+pub memories_encoded : Gives memory_type.bytes Always (IsMinimal memory_type.Encodes memory_type.bytes) NoError sections.Memories
 memories_encoded = list_encoded memories_lawful memories_kind Always NoError (λ x e no. absurd no) sections.Memories (λ ys. ap memories (sym (map-id ys))) (λ ys can. can) (λ ys can. can) (λ ys closed k d lt. tt)
 
-pub globals_encoded : Gives global_entry.bytes IsCountedGlobal (λ g. IsClosedGlobal g → IsShortest global_entry.Encodes global_entry.bytes g) OnlyTooLong sections.Globals
+pub globals_encoded : Gives global_entry.bytes IsCountedGlobal (λ g. IsClosedGlobal g → IsMinimal global_entry.Encodes global_entry.bytes g) OnlyTooLong sections.Globals
 globals_encoded = list_encoded globals_lawful globals_kind IsCountedGlobal OnlyTooLong (λ x e is. is) sections.Globals (λ ys. ap globals (sym (map-id ys))) (λ ys can. can) (λ ys can. can) (λ ys closed. closed)
 
-pub exports_encoded : Gives (λ e. export_entry.bytes (export_parts e)) (λ e. IsCount (length e.name.now)) (λ e. IsShortest export_entry.Encodes export_entry.bytes (export_parts e)) OnlyTooLong sections.Exports
+pub exports_encoded : Gives (λ e. export_entry.bytes (export_parts e)) (λ e. IsCount (length e.name.now)) (λ e. IsMinimal export_entry.Encodes export_entry.bytes (export_parts e)) OnlyTooLong sections.Exports
 exports_encoded = list_encoded exports_lawful exports_kind (λ e. IsCount (length e.name.now)) OnlyTooLong (λ x e is. is) sections.Exports (λ ys. refl) (λ ys can. can) (λ ys can. can) (λ ys closed k d lt. tt)
 
-pub elements_encoded : Gives element_segment.bytes IsCountedElement (λ e. IsClosedElement e → IsShortest element_segment.Encodes element_segment.bytes e) OnlyTooLong sections.Elements
+pub elements_encoded : Gives element_segment.bytes IsCountedElement (λ e. IsClosedElement e → IsMinimal element_segment.Encodes element_segment.bytes e) OnlyTooLong sections.Elements
 elements_encoded = list_encoded elements_lawful elements_kind IsCountedElement OnlyTooLong (λ x e is. is) sections.Elements (λ ys. ap elements (sym (map-id ys))) (λ ys can. can) (λ ys can. can) (λ ys closed. closed)
 
-pub code_encoded : Gives code_body.bytes CountedBody (IsShortest code_body.Encodes code_body.bytes) OnlyTooLong sections.Code
+pub code_encoded : Gives code_body.bytes CountedBody (IsMinimal code_body.Encodes code_body.bytes) OnlyTooLong sections.Code
 code_encoded = list_encoded code_lawful code_kind CountedBody OnlyTooLong (λ x e is. is) sections.Code (λ ys. ap code (sym (map-id ys))) (λ ys can. can) (λ ys can. can) (λ ys closed k d lt. tt)
 
-pub data_encoded : Gives (λ d. data_segment.bytes (data_parts d)) (λ d. IsCountedData (data_parts d)) (λ d. IsClosedData d.mode → IsShortest data_segment.Encodes data_segment.bytes (data_parts d)) OnlyTooLong sections.Data
+pub data_encoded : Gives (λ d. data_segment.bytes (data_parts d)) (λ d. IsCountedData (data_parts d)) (λ d. IsClosedData d.mode → IsMinimal data_segment.Encodes data_segment.bytes (data_parts d)) OnlyTooLong sections.Data
 data_encoded = list_encoded data_lawful data_segments_kind (λ d. IsCountedData (data_parts d)) OnlyTooLong (λ x e is. is) sections.Data (λ ys. refl) (λ ys can. can) (λ ys can. can) (λ ys closed. closed)
 
-pub tags_encoded : Gives tag_type.bytes Always (IsShortest tag_type.Encodes tag_type.bytes) NoError sections.Tags
+pub tags_encoded : Gives tag_type.bytes Always (IsMinimal tag_type.Encodes tag_type.bytes) NoError sections.Tags
 tags_encoded = list_encoded tags_lawful tags_kind Always NoError (λ x e no. absurd no) sections.Tags (λ ys. ap tags (sym (map-id ys))) (λ ys can. can) (λ ys can. can) (λ ys closed k d lt. tt)
 
 -- ---- sections that aren't lists
@@ -252,7 +252,7 @@ whole_written Before (Ok x) id bytes section written = λ closed. written_again 
 whole_written Before (Err e) id bytes section written = tt
 
 custom_of_this : (c : CustomSection) (old new : List ℕ) (r : Result (Unit {0}) EncodeError) → OnOk r (new ≡ old ++ byte_list_bytes (custom_body.bytes (custom_parts c))) → OnOk r (CountedCustom c)
-    → OnOk r (IsShortest custom_body.Encodes custom_body.bytes (custom_parts c) × IsSectionAfter 0 (byte_list_bytes (custom_body.bytes (custom_parts c))) (custom (custom_parts c))) → IfErr r (IsRefusal CountedCustom OnlyTooLong c) → OnErr r (new ≡ old) → EncodesContent (sections.Custom c) old new r
+    → OnOk r (IsMinimal custom_body.Encodes custom_body.bytes (custom_parts c) × IsSectionAfter 0 (byte_list_bytes (custom_body.bytes (custom_parts c))) (custom (custom_parts c))) → IfErr r (IsRefusal CountedCustom OnlyTooLong c) → OnErr r (new ≡ old) → EncodesContent (sections.Custom c) old new r
 custom_of_this c old new r ok can written refused err =
     encodes_content (sections.Custom c) old new (byte_list_bytes (custom_body.bytes (custom_parts c))) r (ap (drop 1) (custom_kind.bytes_are (custom_parts c))) ok can
     (whole_written _ r 0 (byte_list_bytes (custom_body.bytes (custom_parts c))) (sections.Custom c) written) (custom_refused r refused) err where
@@ -261,7 +261,7 @@ custom_of_this c old new r ok can written refused err =
       custom_refused (Err e) refused = refused
 
 pub custom_encoded : (section : ModuleSection) (c : CustomSection) (old new : List ℕ) (r : Result (Unit {0}) EncodeError) → section ≡ sections.Custom c → OnOk r (new ≡ old ++ byte_list_bytes (custom_body.bytes (custom_parts c))) → OnOk r (CountedCustom c)
-    → OnOk r (IsShortest custom_body.Encodes custom_body.bytes (custom_parts c) × IsSectionAfter 0 (byte_list_bytes (custom_body.bytes (custom_parts c))) (custom (custom_parts c))) → IfErr r (IsRefusal CountedCustom OnlyTooLong c) → OnErr r (new ≡ old) → EncodesContent section old new r
+    → OnOk r (IsMinimal custom_body.Encodes custom_body.bytes (custom_parts c) × IsSectionAfter 0 (byte_list_bytes (custom_body.bytes (custom_parts c))) (custom (custom_parts c))) → IfErr r (IsRefusal CountedCustom OnlyTooLong c) → OnErr r (new ≡ old) → EncodesContent section old new r
 custom_encoded section c old new r is ok can written refused err = subst (λ (s : ModuleSection). EncodesContent s old new r) (sym is) (custom_of_this c old new r ok can written refused err)
 
 -- a section of one number is written, unless memory runs out

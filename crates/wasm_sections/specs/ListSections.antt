@@ -3,7 +3,7 @@ use Rattle.std.specs.Prelude.{◌≡◌, ◌++◌, ◌+◌, ◌^◌, ◌≤◌, 
 use Rattle.std.specs.List.{All, flat_map}
 use Rattle.wasm_codec.specs.declared.encode.EncodeError.{EncodeError}
 use Rattle.wasm_codec.specs.declared.encode.EncodeError.TheVariants.{TooLong}
-use Rattle.wasm_codec.specs.Encoding.{byte_list_bytes, IsRefusal, IsShortest, IsShortestOrLonger, OnlyTooLong}
+use Rattle.wasm_codec.specs.Encoding.{byte_list_bytes, IsRefusal, IsMinimal, IsMinimalOrLonger, OnlyTooLong}
 use Rattle.wasm_codec.specs.Lawful.{IsLawful}
 use Rattle.wasm_codec.specs.formats.Combinators.{Format, items}
 use Rattle.wasm_sections.specs.formats.ModuleSectionParts.{ModuleSectionParts}
@@ -42,17 +42,17 @@ pub record LawfulItem {T V : Type 0} (encoding : T → List ℕ) (IsWritten Fits
   -- An item is encoded as its value.
   pub bytes : (item : T) → encoding item ≡ S.format.bytes (view item)
   -- An item that was written and fits has its value's minimal encoding.
-  pub written : (item : T) → IsWritten item → Fits item → IsShortest S.format.Encodes S.format.bytes (view item)
+  pub written : (item : T) → IsWritten item → Fits item → IsMinimal S.format.Encodes S.format.bytes (view item)
   -- A section with this id has a list of items as its body.
   pub body : IsBodyOf S.id S.holding (items S.format)
 
 -- Each item that was written has its value's minimal encoding.
 abbrev pub LawfulEntry : {T V : Type 0} → (T → V) → SectionOf V → Type 0
-LawfulEntry view S = LawfulItem (λ item. S.format.bytes (view item)) (λ item. IsShortest S.format.Encodes S.format.bytes (view item)) (λ item. Unit {0}) view S
+LawfulEntry view S = LawfulItem (λ item. S.format.bytes (view item)) (λ item. IsMinimal S.format.Encodes S.format.bytes (view item)) (λ item. Unit {0}) view S
 
 -- Each item that was written has its value's minimal encoding, if it fits.
 abbrev pub LawfulIf : {T V : Type 0} → (T → V) → SectionOf V → (T → Type 0) → Type 0
-LawfulIf view S Fits = LawfulItem (λ item. S.format.bytes (view item)) (λ item. Fits item → IsShortest S.format.Encodes S.format.bytes (view item)) Fits view S
+LawfulIf view S Fits = LawfulItem (λ item. S.format.bytes (view item)) (λ item. Fits item → IsMinimal S.format.Encodes S.format.bytes (view item)) Fits view S
 
 -- ---- methods that add
 
@@ -125,7 +125,7 @@ pub record EncodesSection {V : Type 0} (B : Format V) (Stands : V → Type 0) (i
   -- The body encodes the values.
   pub encodes : (values : V) → Stands values → B.Encodes (body_bytes section) values
   -- Every other encoding of the values is longer.
-  pub shortest : (values : V) (bytes : List ℕ) → Stands values → B.Encodes bytes values → IsShortestOrLonger bytes (body_bytes section)
+  pub minimal : (values : V) (bytes : List ℕ) → Stands values → B.Encodes bytes values → IsMinimalOrLonger bytes (body_bytes section)
 
 -- The `encode` of a section that is a list of items.
 abbrev pub EncodesItems : {V : Type 0} → SectionOf V → EncodedItems → List ℕ → List ℕ → Result (Unit {0}) EncodeError → Type 0

@@ -1,13 +1,10 @@
 -- Bodies that are a single value, with nothing left over.
-use Rattle.std.specs.Prelude.{◌≡◌, ◌⊎◌, ◌-◌, ◌<◌, ◌≤◌, ℕ, List, [], true, length, Some, None}
-use Rattle.wasm_codec.specs.Outcomes.{EncodesSome, IsLongestPrefix}
+use Rattle.std.specs.Prelude.{◌≡◌, ◌-◌, ◌<◌, ◌≤◌, ℕ, List, true, length, Some, None}
+use Rattle.wasm_codec.specs.Outcomes.{IsLongestPrefix}
 use Rattle.wasm_codec.specs.formats.Grammar.{IsBytes}
 use Rattle.wasm_codec.specs.Places.{Place, place}
 use Rattle.wasm_codec.specs.formats.Combinators.{Format}
-
--- The prefix is empty, or it encodes a value.
-abbrev pub IsNothingOr : {V : Type 0} → Format V → List ℕ → Type 0
-IsNothingOr F prefix = (prefix ≡ []) ⊎ EncodesSome F.Encodes prefix
+use Rattle.wasm_code.specs.DecodedPrefixes.{IsNothingOr}
 
 -- The bytes encode no value, and their longest prefix that is empty or encodes a value has this length.
 pub record IsRefusedAt {V : Type 0} (F : Format V) (bytes : List ℕ) (at : ℕ) : Type 0 where

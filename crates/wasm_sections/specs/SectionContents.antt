@@ -7,7 +7,7 @@ use Rattle.wasm_types.specs.formats.Types.{recursive_type}
 use Rattle.wasm_externals.specs.formats.Externals.{memory_type, tag_type}
 use Rattle.wasm_code.specs.formats.CodeBodies.{function_body, function_parts}
 use Rattle.wasm_code.specs.formats.Sections.{SectionParts}
-use Rattle.wasm_sections.specs.Prefixes.{IsNothingOr}
+use Rattle.wasm_code.specs.DecodedPrefixes.{IsNothingOr}
 use Rattle.wasm_sections.specs.declared.contents.Contents.{Contents}
 use Rattle.wasm_sections.specs.declared.contents.Contents.TheVariants as contents
 use Rattle.wasm_sections.specs.formats.Elements.{element_segment}

@@ -5,10 +5,10 @@ ghost use Rattle.wasm_codec.specs.Places.{Reads};
 ghost use Rattle.wasm_codec.specs.Reading.{map_ok};
 ghost use Rattle.wasm_codec.specs.formats.Bodies.{sized};
 ghost use Rattle.wasm_sections.specs.formats.ModuleSections.{BreaksInList};
-ghost use Rattle.wasm_sections.specs.Prefixes.{IsNothingOr, AreLawfulPrefixes};
+ghost use Rattle.wasm_code.specs.DecodedPrefixes.{IsNothingOr};
+ghost use Rattle.wasm_sections.specs.Prefixes.{AreLawfulPrefixes};
 ghost use Rattle.wasm_codec.specs.Decoding.{RewritesInPlace, RewritesTo};
 ghost use Rattle.wasm_codec.specs.Rewriter.{IsNew};
-ghost use Rattle.wasm_codec.specs.formats.Grammar.{IsBytes};
 ghost use Rattle.wasm_codec.specs.Lists.{BreaksAtItem};
 ghost use Rattle.wasm_codec.specs.formats.Combinators.{items, u32 as u32_format};
 
@@ -97,14 +97,13 @@ pub fn read_sized_list<'a, T: Readable<'a>>(
     ensures reads { Reads (sized (items T.format)).at cursor.old cursor.new (map_ok T.views result) }
     ensures names { IfInItem result (BreaksInList T.format cursor.old.left) }
 {
-    // `fork` shows the proof that all remaining items are bytes.
-    let _start = cursor.fork();
+    cursor.are_bytes();
     let mut body = cursor.body()?;
     let items = read_list(alloc, &mut body)?;
     if body.len() > 0 {
         return Err(Fault::Malformed(body.trailing()));
     }
-    cursor.set_shortest(body.is_shortest());
+    cursor.set_minimal(body.is_minimal());
     Ok(items)
 }
 
@@ -128,12 +127,4 @@ impl<T: Rewritable> RewritableBody for ListOf<T> {
     fn rewrite(rewriter: &mut Rewriter) -> Result<(), Fault> {
         rewrite_list::<T>(rewriter)
     }
-}
-
-/// Proves that the items of a slice are bytes. Does nothing at run time.
-pub(crate) fn are_bytes(bytes: &[u8])
-    ensures { IsBytes bytes.now }
-{
-    // `fork` shows the proof that the items are bytes.
-    let _start = Cursor::new(bytes).fork();
 }

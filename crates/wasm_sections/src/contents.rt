@@ -4,7 +4,7 @@ ghost use Rattle.wasm_codec.specs.Outcomes.{HoldsAtRefusal, as_read, read_error_
 ghost use Rattle.wasm_codec.specs.Decoding.{ReadsAll};
 ghost use Rattle.wasm_codec.specs.formats.Combinators.{minimal_if, u32 as u32_format};
 ghost use Rattle.wasm_code.specs.formats.Sections.{parts_of};
-ghost use Rattle.wasm_sections.specs.Prefixes.{IsNothingOr};
+ghost use Rattle.wasm_code.specs.DecodedPrefixes.{IsNothingOr};
 ghost use Rattle.wasm_sections.specs.SectionContents.{EncodesNoValue, GivesContents, HasNoContents};
 ghost use Rattle.wasm_sections.specs.formats.EntryParts.{custom_parts};
 ghost use Rattle.wasm_sections.specs.formats.Sections.{custom_body};
@@ -90,6 +90,7 @@ pub fn read_contents<'a>(
 ) -> Result<Contents<'a>, DecodeError>
     ensures gives { IfOk result (GivesContents false (end - length section.now.body.now) (parts_of section.now)) }
     ensures refused { IfErr result (λ e. HoldsAtRefusal (read_error_of e) (HasNoContents false (end - length section.now.body.now) (parts_of section.now))) }
+    ensures memory { NeedsNoMemory (as_read result) }
 {
     contents_if(alloc, section, end, false)
 }
@@ -114,6 +115,7 @@ pub fn read_contents_strict<'a>(
 ) -> Result<Contents<'a>, DecodeError>
     ensures gives { IfOk result (GivesContents true (end - length section.now.body.now) (parts_of section.now)) }
     ensures refused { IfErr result (λ e. HoldsAtRefusal (read_error_of e) (HasNoContents true (end - length section.now.body.now) (parts_of section.now))) }
+    ensures memory { NeedsNoMemory (as_read result) }
 {
     contents_if(alloc, section, end, true)
 }
@@ -127,6 +129,7 @@ fn contents_if<'a>(
 ) -> Result<Contents<'a>, DecodeError>
     ensures gives { IfOk result (GivesContents is_strict (end - length section.now.body.now) (parts_of section.now)) }
     ensures refused { IfErr result (λ e. HoldsAtRefusal (read_error_of e) (HasNoContents is_strict (end - length section.now.body.now) (parts_of section.now))) }
+    ensures memory { NeedsNoMemory (as_read result) }
 {
     let body = section.body;
     let start = end.saturating_sub(body.len());
@@ -155,6 +158,7 @@ fn number_at(body: &[u8], start: usize, is_strict: bool) -> Result<u32, DecodeEr
     requires fits { start + length body.now < 2 ^ 64 }
     ensures given { IfOk result (λ number. (minimal_if is_strict u32_format).Encodes body.now number) }
     ensures refused { IfErr result (λ e. HoldsAtRefusal (read_error_of e) (EncodesNoValue is_strict u32_format start body.now)) }
+    ensures memory { NeedsNoMemory (as_read result) }
 {
     match number_if(body, is_strict) {
         Ok(number) => Ok(number),
@@ -166,6 +170,7 @@ fn number_at(body: &[u8], start: usize, is_strict: bool) -> Result<u32, DecodeEr
 fn number_if(body: &[u8], is_strict: bool) -> Result<u32, DecodeError>
     ensures reads { ReadsAll (λ number. number) (minimal_if is_strict u32_format).Encodes (IsNothingOr (minimal_if is_strict u32_format)) body.now (as_read result) }
     ensures place { IfErr result (LiesIn (length body.now)) }
+    ensures memory { NeedsNoMemory (as_read result) }
 {
     if is_strict {
         read_number_strict(body)
@@ -184,6 +189,7 @@ fn custom_at<'a>(
     requires fits { start + length body.now < 2 ^ 64 }
     ensures given { IfOk result (λ section. (minimal_if is_strict custom_body).Encodes body.now (custom_parts section)) }
     ensures refused { IfErr result (λ e. HoldsAtRefusal (read_error_of e) (EncodesNoValue is_strict custom_body start body.now)) }
+    ensures memory { NeedsNoMemory (as_read result) }
 {
     match custom_if(body, is_strict) {
         Ok(section) => Ok(section),
@@ -195,6 +201,7 @@ fn custom_at<'a>(
 fn custom_if<'a>(body: &'a [u8], is_strict: bool) -> Result<CustomSection<'a>, DecodeError>
     ensures reads { ReadsAll custom_parts (minimal_if is_strict custom_body).Encodes (IsNothingOr (minimal_if is_strict custom_body)) body.now (as_read result) }
     ensures place { IfErr result (LiesIn (length body.now)) }
+    ensures memory { NeedsNoMemory (as_read result) }
 {
     if is_strict {
         read_name_and_bytes_strict(body)

@@ -2,17 +2,16 @@
 ghost use Rattle.std.specs.Prelude.{⊤, length, ◌≡◌, ◌++◌, OnOk, IfOk, IfErr, take, ◌≤◌};
 ghost use Rattle.wasm_codec.specs.formats.Combinators.{minimal_only};
 ghost use Rattle.wasm_sections.specs.formats.EntryParts.{CustomParts, custom_parts};
-ghost use Rattle.wasm_sections.specs.Prefixes.{IsNothingOr};
+ghost use Rattle.wasm_code.specs.DecodedPrefixes.{ArePrefixes, IsNothingOr};
 ghost use Rattle.wasm_sections.specs.formats.Sections.{custom_body};
-ghost use Rattle.wasm_codec.specs.Decoding.{ReadsAll, ChecksAll, RewritesInPlace, IsMinimal, Decodes};
+ghost use Rattle.wasm_codec.specs.Decoding.{ReadsAll, ChecksAll, RewritesInPlace, TakesMinimal, Decodes};
 ghost use Rattle.wasm_codec.specs.Lawful.{IsLawfulBody};
 ghost use Rattle.wasm_codec.specs.Outcomes.{IfMalformed, LiesIn, as_read, NeedsNoMemory};
-ghost use Rattle.wasm_codec.specs.Encoding.{byte_list_bytes, IsRefusal, IsShortest, IsTooLong, OnlyTooLong};
+ghost use Rattle.wasm_codec.specs.Encoding.{byte_list_bytes, IsRefusal, IsMinimal, IsTooLong, OnlyTooLong};
 ghost use Rattle.wasm_sections.specs.formats.ModuleSectionParts.{custom};
 ghost use Rattle.wasm_sections.specs.SectionBytes.{CountedCustom, IsSectionAfter};
-ghost use Rattle.wasm_code.specs.DecodedPrefixes.{ArePrefixes};
 
-use crate::bodies::{WholeBody, are_bytes, rewrite_body};
+use crate::bodies::{WholeBody, rewrite_body};
 use std::alloc::{Allocator, Global};
 use wasm_code::decode::Decode;
 use wasm_codec::encode::leb128::u32_len;
@@ -20,7 +19,7 @@ use wasm_codec::encode::{EncodeError, keep_or_undo};
 use wasm_codec::reader::cursor::{Cursor, Fault};
 use wasm_codec::reader::malformed::{Construct, Malformed, Reason};
 use wasm_codec::reader::{DecodeError, ReadError, without_reason};
-use wasm_codec::rewriter::Rewriter;
+use wasm_codec::rewriter::{Rewriter, are_bytes};
 use wasm_externals::names::{append_name, read_name, rewrite_name};
 use wasm_lists::encode::Encode;
 use wasm_lists::rewriting::RewritableBody;
@@ -61,8 +60,7 @@ pub(crate) fn read_name_and_bytes<'a>(body: &'a [u8]) -> Result<CustomSection<'a
     ensures place { IfErr result (LiesIn (length body.now)) }
 {
     let mut cursor = Cursor::new(body);
-    // `fork` shows the proof that all remaining items are bytes.
-    let _start = cursor.fork();
+    cursor.are_bytes();
     let name = match read_name(&mut cursor) {
         Ok(name) => name,
         Err(fault) => return Err(DecodeError::new(fault, 0, body.len())),
@@ -84,13 +82,12 @@ pub(crate) fn read_name_and_bytes_strict<'a>(
     ensures place { IfErr result (LiesIn (length body.now)) }
 {
     let mut cursor = Cursor::new(body);
-    // `fork` shows the proof that all remaining items are bytes.
-    let _start = cursor.fork();
+    cursor.are_bytes();
     let name = match read_name(&mut cursor) {
         Ok(name) => name,
         Err(fault) => return Err(DecodeError::new(fault, 0, body.len())),
     };
-    if !cursor.is_shortest() {
+    if !cursor.is_minimal() {
         let long = Malformed::new(Reason::LongForm, body.len());
         return Err(DecodeError::refused(&long, 0, body.len()));
     }
@@ -149,7 +146,7 @@ impl<'a> Decode<'a> for CustomSection<'a> {
     #[tactic(auto, using(wasm_code::proofs::PrefixLaws::nothing_or, crate::proofs::CustomLaws::custom_is_lawful))]
     fn is_lawful()
         ensures lawful { IsLawfulBody custom_body }
-        ensures minimal { IsMinimal custom_body (minimal_only custom_body).Encodes }
+        ensures minimal { TakesMinimal custom_body (minimal_only custom_body).Encodes }
         ensures prefixes { ArePrefixes custom_body.Encodes (IsNothingOr custom_body) }
         ensures minimal_prefixes { ArePrefixes (minimal_only custom_body).Encodes (IsNothingOr (minimal_only custom_body)) }
     {}
@@ -190,7 +187,7 @@ impl<'a> Decode<'a> for CustomSection<'a> {
 impl<'a> Encode for CustomSection<'a> {
     ghost bytes = { λ section. byte_list_bytes (custom_body.bytes (custom_parts section)) };
 
-    ghost IsWritten = { λ section. IsShortest custom_body.Encodes custom_body.bytes (custom_parts section) ×
+    ghost IsWritten = { λ section. IsMinimal custom_body.Encodes custom_body.bytes (custom_parts section) ×
         IsSectionAfter 0 (byte_list_bytes (custom_body.bytes (custom_parts section))) (custom (custom_parts section)) };
 
     ghost CanEncode = { CountedCustom };
@@ -211,7 +208,7 @@ fn append_custom<A: Allocator>(
 ) -> Result<(), EncodeError>
     ensures ok { OnOk result (sink.new.items ≡ sink.old.items ++ byte_list_bytes (custom_body.bytes (custom_parts section.now))) }
     ensures can { OnOk result (CountedCustom section.now) }
-    ensures shortest { OnOk result (IsShortest custom_body.Encodes custom_body.bytes (custom_parts section.now)) }
+    ensures minimal { OnOk result (IsMinimal custom_body.Encodes custom_body.bytes (custom_parts section.now)) }
     ensures whole { OnOk result (IsSectionAfter 0 (byte_list_bytes (custom_body.bytes (custom_parts section.now))) (custom (custom_parts section.now))) }
     ensures refused { IfErr result (IsRefusal CountedCustom OnlyTooLong section.now) }
     ensures kept { take (length sink.old.items) sink.new.items ≡ sink.old.items }
@@ -230,7 +227,7 @@ pub fn append_front<A: Allocator>(
 ) -> Result<(), EncodeError>
     ensures ok { OnOk result (sink.new.items ++ section.now.bytes.now ≡ sink.old.items ++ byte_list_bytes (custom_body.bytes (custom_parts section.now))) }
     ensures can { OnOk result (CountedCustom section.now) }
-    ensures shortest { OnOk result (IsShortest custom_body.Encodes custom_body.bytes (custom_parts section.now)) }
+    ensures minimal { OnOk result (IsMinimal custom_body.Encodes custom_body.bytes (custom_parts section.now)) }
     ensures whole { OnOk result (IsSectionAfter 0 (byte_list_bytes (custom_body.bytes (custom_parts section.now))) (custom (custom_parts section.now))) }
     ensures refused { IfErr result (IsRefusal CountedCustom OnlyTooLong section.now) }
     ensures kept { take (length sink.old.items) sink.new.items ≡ sink.old.items }

@@ -1,7 +1,7 @@
 //! Data sections (Core 3.0, Data Section).
 ghost use Rattle.std.specs.Prelude.{◌≡◌, List, length, refl, IfErr, ℕ, ◌++◌, OnOk, take, Some, IfSome};
 ghost use Rattle.wasm_codec.specs.Scanning.{Scans};
-ghost use Rattle.wasm_codec.specs.declared.rewriter.scan.Scanned.TheVariants.{Shortest};
+ghost use Rattle.wasm_codec.specs.declared.rewriter.scan.Scanned.TheVariants.{Minimal};
 ghost use Rattle.wasm_codec.specs.Places.{Reads};
 ghost use Rattle.wasm_codec.specs.Rewriter.{Rewrites};
 ghost use Rattle.wasm_codec.specs.Outcomes.{IsMalformed};
@@ -14,13 +14,12 @@ ghost use Rattle.wasm_codec.specs.formats.Combinators.{◌⊗◌, items};
 ghost use Rattle.wasm_sections.specs.formats.EntryParts.{DataParts, data_parts, all_data_parts};
 ghost use Rattle.wasm_externals.specs.formats.Expressions.{expr};
 ghost use Rattle.wasm_sections.specs.formats.Segments.{data_segment, active_data, passive_data};
-ghost use Rattle.wasm_codec.specs.Encoding.{IsRefusal, IsShortest, OnlyTooLong};
+ghost use Rattle.wasm_codec.specs.Encoding.{IsRefusal, IsMinimal, OnlyTooLong};
 ghost use Rattle.wasm_sections.specs.ClosedEntries.{IsClosedData, IsCountedData, IsCountedDataMode};
 ghost use Rattle.wasm_sections.specs.SegmentBytes.{DataModeFits, data_mode_bytes};
 ghost use Rattle.wasm_sections.specs.SectionKinds.{data_section};
 ghost use Rattle.wasm_sections.specs.ListSections.{AddsCounted, LawfulIf};
 
-use crate::bodies::are_bytes;
 use crate::list_section::{ListSection, SectionItem, add};
 use crate::segments::append_table_and_offset;
 use std::alloc::{Allocator, Global};
@@ -29,7 +28,7 @@ use wasm_codec::encode::leb128::put_u32;
 use wasm_codec::encode::{EncodeError, keep_or_undo};
 use wasm_codec::reader::cursor::{Cursor, Fault};
 use wasm_codec::reader::malformed::{Construct, Malformed};
-use wasm_codec::rewriter::{Rewriter, Scanned};
+use wasm_codec::rewriter::{Rewriter, Scanned, are_bytes};
 use wasm_externals::const_expr::ConstExpr;
 use wasm_externals::expressions::{read_expr, rewrite_expr, scan_expr};
 use wasm_instructions::table::Call;
@@ -143,7 +142,7 @@ impl<'a> Readable<'a> for DataSegment<'a> {
     {
         rewriter.are_bytes();
         if let Some(count) = scan_data_segment(rewriter.left()) {
-            rewriter.rewrite_scanned(Scanned::Shortest(count));
+            rewriter.rewrite_scanned(Scanned::Minimal(count));
             return Ok(());
         }
         rewrite_data_segment(rewriter)
@@ -154,7 +153,7 @@ impl<'a> Readable<'a> for DataSegment<'a> {
 /// bytes, and is passive or has a frequent instruction as its offset in memory 0.
 #[inline(always)]
 fn scan_data_segment(bytes: &[u8]) -> Option<usize>
-    ensures { IfSome result (λ count. Scans data_segment bytes.now (Some (Shortest count))) }
+    ensures { IfSome result (λ count. Scans data_segment bytes.now (Some (Minimal count))) }
 {
     if bytes.len() == 0 {
         return None;
@@ -177,7 +176,7 @@ fn scan_data_segment(bytes: &[u8]) -> Option<usize>
 /// are 128 or more.
 #[inline(always)]
 fn scan_byte_list(bytes: &[u8]) -> Option<usize>
-    ensures { IfSome result (λ count. Scans byte_list bytes.now (Some (Shortest count))) }
+    ensures { IfSome result (λ count. Scans byte_list bytes.now (Some (Minimal count))) }
 {
     if bytes.len() == 0 {
         return None;
@@ -266,7 +265,7 @@ fn append_data_segment<A: Allocator>(
     ensures ok { OnOk result (sink.new.items ≡ sink.old.items ++ data_segment.bytes (data_parts segment.now)) }
     ensures can { OnOk result (IsCountedData (data_parts segment.now)) }
     ensures written { OnOk result (IsClosedData segment.now.mode →
-        IsShortest data_segment.Encodes data_segment.bytes (data_parts segment.now)) }
+        IsMinimal data_segment.Encodes data_segment.bytes (data_parts segment.now)) }
     ensures refused { IfErr result (IsRefusal (λ d. IsCountedData (data_parts d)) OnlyTooLong segment.now) }
     ensures kept { take (length sink.old.items) sink.new.items ≡ sink.old.items }
 {
@@ -283,7 +282,7 @@ fn append_data_segment<A: Allocator>(
 impl<'a> Encode for DataSegment<'a> {
     ghost bytes = { λ segment. data_segment.bytes (data_parts segment) };
 
-    ghost IsWritten = { λ segment. IsClosedData segment.mode → IsShortest data_segment.Encodes data_segment.bytes (data_parts segment) };
+    ghost IsWritten = { λ segment. IsClosedData segment.mode → IsMinimal data_segment.Encodes data_segment.bytes (data_parts segment) };
 
     ghost CanEncode = { λ segment. IsCountedData (data_parts segment) };
 

@@ -10,7 +10,7 @@ ghost use Rattle.wasm_types.specs.formats.Types.{ref_type};
 ghost use Rattle.wasm_instructions.specs.formats.Instructions.{Instruction};
 ghost use Rattle.wasm_externals.specs.formats.Expressions.{expr};
 ghost use Rattle.std.specs.List.{All, Any, flat_map};
-ghost use Rattle.wasm_codec.specs.Encoding.{CanEncodeList, IsListRefusal, IsRefusal, IsShortest, OnlyTooLong, Refuses};
+ghost use Rattle.wasm_codec.specs.Encoding.{CanEncodeList, IsListRefusal, IsRefusal, IsMinimal, OnlyTooLong, Refuses};
 ghost use Rattle.wasm_codec.specs.declared.encode.EncodeError.TheVariants.{Memory};
 ghost use Rattle.wasm_sections.specs.ClosedEntries.{AreClosed, AreCounted, IsClosedElement, IsClosedMode, IsCountedElement, IsCountedMode};
 ghost use Rattle.wasm_externals.specs.ClosedExpressions.{IsCountedExpr, IsWrittenExpr};
@@ -21,7 +21,6 @@ ghost use Rattle.wasm_sections.specs.declared.elements.Elements.TheVariants as h
 ghost use Rattle.wasm_externals.specs.Making.{Makes};
 ghost use Rattle.wasm_sections.specs.ElementSections.{AddsSegment};
 
-use crate::bodies::are_bytes;
 use crate::list_section::{ListSection, SectionItem};
 use crate::segments::append_table_and_offset;
 use std::alloc::{Allocator, Global};
@@ -29,7 +28,7 @@ use wasm_codec::encode::leb128::put_u32;
 use wasm_codec::encode::{EncodeError, keep_or_undo};
 use wasm_codec::reader::cursor::{Cursor, Fault};
 use wasm_codec::reader::malformed::{Construct, Malformed};
-use wasm_codec::rewriter::{Rewriter, Scanned};
+use wasm_codec::rewriter::{Rewriter, Scanned, are_bytes};
 use wasm_externals::const_expr::ConstExpr;
 use wasm_externals::expressions::{encode_expr, read_expr, rewrite_expr, scan_expr};
 use wasm_instructions::table::Call;
@@ -288,7 +287,7 @@ impl Rewritable for Expression {
     fn rewrite(rewriter: &mut Rewriter) -> Result<(), Fault> {
         rewriter.are_bytes();
         if let Some(count) = scan_expr(rewriter.left()) {
-            rewriter.rewrite_scanned(Scanned::Shortest(count));
+            rewriter.rewrite_scanned(Scanned::Minimal(count));
             return Ok(());
         }
         rewrite_expr(rewriter)
@@ -509,7 +508,7 @@ fn append_element<A: Allocator>(element: &Element, sink: &mut Vec<u8, A>) -> Res
     ensures ok { OnOk result (sink.new.items ≡ sink.old.items ++ element_segment.bytes element.now) }
     ensures can { OnOk result (IsCountedElement element.now) }
     ensures written { OnOk result (IsClosedElement element.now →
-        IsShortest element_segment.Encodes element_segment.bytes element.now) }
+        IsMinimal element_segment.Encodes element_segment.bytes element.now) }
     ensures refused { IfErr result (IsRefusal IsCountedElement OnlyTooLong element.now) }
     ensures kept { take (length sink.old.items) sink.new.items ≡ sink.old.items }
 {
@@ -526,7 +525,7 @@ fn append_element<A: Allocator>(element: &Element, sink: &mut Vec<u8, A>) -> Res
 impl Encode for Element {
     ghost bytes = { element_segment.bytes };
 
-    ghost IsWritten = { λ element. IsClosedElement element → IsShortest element_segment.Encodes element_segment.bytes element };
+    ghost IsWritten = { λ element. IsClosedElement element → IsMinimal element_segment.Encodes element_segment.bytes element };
 
     ghost CanEncode = { IsCountedElement };
 

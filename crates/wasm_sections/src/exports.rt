@@ -1,7 +1,7 @@
 //! Export sections (Core 3.0, Export Section).
 ghost use Rattle.std.specs.Prelude.{◌≡◌, refl, IfErr, ◌++◌, OnOk, length, take, Some, IfSome};
 ghost use Rattle.wasm_codec.specs.Scanning.{Scans};
-ghost use Rattle.wasm_codec.specs.declared.rewriter.scan.Scanned.TheVariants.{Shortest};
+ghost use Rattle.wasm_codec.specs.declared.rewriter.scan.Scanned.TheVariants.{Minimal};
 ghost use Rattle.wasm_codec.specs.Inputs.{Passes};
 ghost use Rattle.wasm_codec.specs.Rewriter.{Rewrites};
 ghost use Rattle.wasm_codec.specs.Outcomes.{IsMalformed};
@@ -10,7 +10,7 @@ ghost use Rattle.wasm_codec.specs.formats.Grammar.{TakesBytes};
 ghost use Rattle.wasm_codec.specs.Lawful.{IsLawful};
 ghost use Rattle.wasm_sections.specs.formats.EntryParts.{ExportParts, export_parts, all_export_parts};
 ghost use Rattle.wasm_sections.specs.formats.Entries.{export_entry, export_of};
-ghost use Rattle.wasm_codec.specs.Encoding.{IsCount, IsCountRefusal, IsShortest, OnlyTooLong};
+ghost use Rattle.wasm_codec.specs.Encoding.{IsCount, IsCountRefusal, IsMinimal, OnlyTooLong};
 ghost use Rattle.wasm_externals.specs.formats.Names.{name};
 ghost use Rattle.wasm_sections.specs.SectionKinds.{export_section};
 ghost use Rattle.wasm_sections.specs.ListSections.{AddsOr, IsUncounted, LawfulEntry};
@@ -78,7 +78,7 @@ impl<'a> Readable<'a> for Export<'a> {
     {
         rewriter.are_bytes();
         if let Some(count) = scan_export(rewriter.left()) {
-            rewriter.rewrite_scanned(Scanned::Shortest(count));
+            rewriter.rewrite_scanned(Scanned::Minimal(count));
             return Ok(());
         }
         take_export(rewriter)?;
@@ -90,7 +90,7 @@ impl<'a> Readable<'a> for Export<'a> {
 /// and its index is minimally encoded.
 #[inline(always)]
 fn scan_export(bytes: &[u8]) -> Option<usize>
-    ensures { IfSome result (λ count. Scans export_entry bytes.now (Some (Shortest count))) }
+    ensures { IfSome result (λ count. Scans export_entry bytes.now (Some (Minimal count))) }
 {
     let name = scan_name(bytes)?;
     if name >= bytes.len() {
@@ -100,7 +100,7 @@ fn scan_export(bytes: &[u8]) -> Option<usize>
         return None;
     }
     match scan_u32(&bytes[name + 1..]) {
-        Some(Scanned::Shortest(count)) => Some(name + 1 + count),
+        Some(Scanned::Minimal(count)) => Some(name + 1 + count),
         _ => None,
     }
 }
@@ -112,7 +112,7 @@ fn append_export<A: Allocator>(
 ) -> Result<(), EncodeError>
     ensures ok { OnOk result (sink.new.items ≡ sink.old.items ++ export_entry.bytes (export_parts export.now)) }
     ensures can { OnOk result (IsCount (length export.now.name.now)) }
-    ensures written { OnOk result (IsShortest export_entry.Encodes export_entry.bytes (export_parts export.now)) }
+    ensures written { OnOk result (IsMinimal export_entry.Encodes export_entry.bytes (export_parts export.now)) }
     ensures refused { IfErr result (IsCountRefusal (length export.now.name.now)) }
     ensures kept { take (length sink.old.items) sink.new.items ≡ sink.old.items }
 {
@@ -129,7 +129,7 @@ fn append_export<A: Allocator>(
 impl<'a> Encode for Export<'a> {
     ghost bytes = { λ export. export_entry.bytes (export_parts export) };
 
-    ghost IsWritten = { λ export. IsShortest export_entry.Encodes export_entry.bytes (export_parts export) };
+    ghost IsWritten = { λ export. IsMinimal export_entry.Encodes export_entry.bytes (export_parts export) };
 
     ghost CanEncode = { λ export. IsCount (length export.name.now) };
 

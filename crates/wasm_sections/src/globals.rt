@@ -1,12 +1,12 @@
 //! Global sections (Core 3.0, Global Section).
 ghost use Rattle.std.specs.Prelude.{refl, ◌≡◌, ◌++◌, OnOk, IfErr, length, take, Some, IfSome};
 ghost use Rattle.wasm_codec.specs.Scanning.{Scans};
-ghost use Rattle.wasm_codec.specs.declared.rewriter.scan.Scanned.TheVariants.{Shortest};
+ghost use Rattle.wasm_codec.specs.declared.rewriter.scan.Scanned.TheVariants.{Minimal};
 ghost use Rattle.wasm_codec.specs.Places.{Reads};
 ghost use Rattle.wasm_codec.specs.Rewriter.{Rewrites};
 ghost use Rattle.wasm_sections.specs.declared.globals.Global.{Global};
 ghost use Rattle.wasm_sections.specs.formats.Entries.{global_entry, global_of};
-ghost use Rattle.wasm_codec.specs.Encoding.{IsRefusal, IsShortest, OnlyTooLong};
+ghost use Rattle.wasm_codec.specs.Encoding.{IsRefusal, IsMinimal, OnlyTooLong};
 ghost use Rattle.wasm_sections.specs.ClosedEntries.{IsClosedGlobal, IsCountedGlobal};
 ghost use Rattle.wasm_sections.specs.SectionKinds.{global_section};
 ghost use Rattle.wasm_sections.specs.ListSections.{AddsCounted};
@@ -76,7 +76,7 @@ impl<'a> Readable<'a> for Global {
     fn rewrite(rewriter: &mut Rewriter) -> Result<(), Fault> {
         rewriter.are_bytes();
         if let Some(count) = scan_global(rewriter.left()) {
-            rewriter.rewrite_scanned(Scanned::Shortest(count));
+            rewriter.rewrite_scanned(Scanned::Minimal(count));
             return Ok(());
         }
         rewrite_global(rewriter)
@@ -87,7 +87,7 @@ impl<'a> Readable<'a> for Global {
 /// and its initial value is a frequent instruction.
 #[inline(always)]
 fn scan_global(bytes: &[u8]) -> Option<usize>
-    ensures { IfSome result (λ count. Scans global_entry bytes.now (Some (Shortest count))) }
+    ensures { IfSome result (λ count. Scans global_entry bytes.now (Some (Minimal count))) }
 {
     let ty = scan_global_type(bytes)?;
     let init = scan_expr(&bytes[ty..])?;
@@ -98,7 +98,7 @@ fn scan_global(bytes: &[u8]) -> Option<usize>
 fn append_global<A: Allocator>(global: &Global, sink: &mut Vec<u8, A>) -> Result<(), EncodeError>
     ensures ok { OnOk result (sink.new.items ≡ sink.old.items ++ global_entry.bytes global.now) }
     ensures can { OnOk result (IsCountedGlobal global.now) }
-    ensures written { OnOk result (IsClosedGlobal global.now → IsShortest global_entry.Encodes global_entry.bytes global.now) }
+    ensures written { OnOk result (IsClosedGlobal global.now → IsMinimal global_entry.Encodes global_entry.bytes global.now) }
     ensures refused { IfErr result (IsRefusal IsCountedGlobal OnlyTooLong global.now) }
     ensures kept { take (length sink.old.items) sink.new.items ≡ sink.old.items }
 {
@@ -113,7 +113,7 @@ fn append_global<A: Allocator>(global: &Global, sink: &mut Vec<u8, A>) -> Result
 impl Encode for Global {
     ghost bytes = { global_entry.bytes };
 
-    ghost IsWritten = { λ global. IsClosedGlobal global → IsShortest global_entry.Encodes global_entry.bytes global };
+    ghost IsWritten = { λ global. IsClosedGlobal global → IsMinimal global_entry.Encodes global_entry.bytes global };
 
     ghost CanEncode = { IsCountedGlobal };
 

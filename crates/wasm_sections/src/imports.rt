@@ -1,7 +1,7 @@
 //! Import sections (Core 3.0, Import Section).
 ghost use Rattle.std.specs.Prelude.{◌≡◌, refl, IfErr, ◌++◌, OnOk, length, take, ◌⊎◌, Some, IfSome};
 ghost use Rattle.wasm_codec.specs.Scanning.{Scans};
-ghost use Rattle.wasm_codec.specs.declared.rewriter.scan.Scanned.TheVariants.{Shortest};
+ghost use Rattle.wasm_codec.specs.declared.rewriter.scan.Scanned.TheVariants.{Minimal};
 ghost use Rattle.wasm_codec.specs.Inputs.{Passes};
 ghost use Rattle.wasm_codec.specs.Rewriter.{Rewrites};
 ghost use Rattle.wasm_codec.specs.Outcomes.{IsMalformed};
@@ -10,7 +10,7 @@ ghost use Rattle.wasm_codec.specs.formats.Grammar.{TakesBytes};
 ghost use Rattle.wasm_codec.specs.Lawful.{IsLawful};
 ghost use Rattle.wasm_sections.specs.formats.EntryParts.{ImportParts, import_parts, all_import_parts};
 ghost use Rattle.wasm_sections.specs.formats.Entries.{import_entry, import_of};
-ghost use Rattle.wasm_codec.specs.Encoding.{IsCount, IsRefusal, IsShortest, OnlyTooLong};
+ghost use Rattle.wasm_codec.specs.Encoding.{IsCount, IsRefusal, IsMinimal, OnlyTooLong};
 ghost use Rattle.wasm_sections.specs.SectionKinds.{import_section};
 ghost use Rattle.wasm_sections.specs.ListSections.{AddsOr, IsUncounted, LawfulEntry};
 
@@ -96,7 +96,7 @@ impl<'a> Readable<'a> for Import<'a> {
     {
         rewriter.are_bytes();
         if let Some(count) = scan_import(rewriter.left()) {
-            rewriter.rewrite_scanned(Scanned::Shortest(count));
+            rewriter.rewrite_scanned(Scanned::Minimal(count));
             return Ok(());
         }
         take_import(rewriter)?;
@@ -108,7 +108,7 @@ impl<'a> Readable<'a> for Import<'a> {
 /// ASCII, and it is a function or a global.
 #[inline(always)]
 fn scan_import(bytes: &[u8]) -> Option<usize>
-    ensures { IfSome result (λ count. Scans import_entry bytes.now (Some (Shortest count))) }
+    ensures { IfSome result (λ count. Scans import_entry bytes.now (Some (Minimal count))) }
 {
     let module_name = scan_name(bytes)?;
     let field = scan_name(&bytes[module_name..])?;
@@ -124,7 +124,7 @@ fn append_import<A: Allocator>(
 ) -> Result<(), EncodeError>
     ensures ok { OnOk result (sink.new.items ≡ sink.old.items ++ import_entry.bytes (import_parts import.now)) }
     ensures can { OnOk result (IsCount (length import.now.module.now) × IsCount (length import.now.field.now)) }
-    ensures written { OnOk result (IsShortest import_entry.Encodes import_entry.bytes (import_parts import.now)) }
+    ensures written { OnOk result (IsMinimal import_entry.Encodes import_entry.bytes (import_parts import.now)) }
     ensures refused { IfErr result (IsRefusal (λ i. IsCount (length i.module.now) × IsCount (length i.field.now)) OnlyTooLong import.now) }
     ensures kept { take (length sink.old.items) sink.new.items ≡ sink.old.items }
 {
@@ -141,7 +141,7 @@ fn append_import<A: Allocator>(
 impl<'a> Encode for Import<'a> {
     ghost bytes = { λ import. import_entry.bytes (import_parts import) };
 
-    ghost IsWritten = { λ import. IsShortest import_entry.Encodes import_entry.bytes (import_parts import) };
+    ghost IsWritten = { λ import. IsMinimal import_entry.Encodes import_entry.bytes (import_parts import) };
 
     ghost CanEncode = { λ import. IsCount (length import.module.now) × IsCount (length import.field.now) };
 

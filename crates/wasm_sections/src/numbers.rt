@@ -2,7 +2,7 @@
 ghost use Rattle.std.specs.Prelude.{⊤, ℕ, Ok, ◌≡◌, ◌++◌, OnOk, IfErr, OnErr, length};
 ghost use Rattle.wasm_codec.specs.Outcomes.{LiesIn, as_read, NeedsNoMemory};
 ghost use Rattle.wasm_codec.specs.formats.Combinators.{minimal_only, u32 as u32_format};
-ghost use Rattle.wasm_sections.specs.Prefixes.{IsNothingOr};
+ghost use Rattle.wasm_code.specs.DecodedPrefixes.{IsNothingOr};
 ghost use Rattle.wasm_codec.specs.Decoding.{ReadsAll};
 ghost use Rattle.wasm_codec.specs.Encoding.{byte_list_bytes};
 ghost use Rattle.wasm_codec.specs.Leb128.{unsigned_leb128};
@@ -64,8 +64,7 @@ pub fn read_number(body: &[u8]) -> Result<u32, DecodeError>
     ensures place { IfErr result (LiesIn (length body.now)) }
 {
     let mut cursor = Cursor::new(body);
-    // `fork` shows the proof that all remaining items are bytes.
-    let _start = cursor.fork();
+    cursor.are_bytes();
     let number = match cursor.u32() {
         Ok(number) => number,
         Err(fault) => return Err(DecodeError::new(fault, 0, body.len())),
@@ -84,13 +83,12 @@ pub fn read_number_strict(body: &[u8]) -> Result<u32, DecodeError>
     ensures place { IfErr result (LiesIn (length body.now)) }
 {
     let mut cursor = Cursor::new(body);
-    // `fork` shows the proof that all remaining items are bytes.
-    let _start = cursor.fork();
+    cursor.are_bytes();
     let number = match cursor.u32() {
         Ok(number) => number,
         Err(fault) => return Err(DecodeError::new(fault, 0, body.len())),
     };
-    if !cursor.is_shortest() {
+    if !cursor.is_minimal() {
         let long = Malformed::new(Reason::LongForm, body.len());
         return Err(DecodeError::refused(&long, 0, body.len()));
     }

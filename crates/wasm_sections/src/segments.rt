@@ -2,7 +2,7 @@
 ghost use Rattle.std.specs.Prelude.{◌≡◌, ◌++◌, OnOk, IfErr, IfSome, length, take};
 ghost use Rattle.wasm_codec.specs.Leb128.{unsigned_leb128};
 ghost use Rattle.wasm_codec.specs.formats.Numbers.{EncodesU32};
-ghost use Rattle.wasm_codec.specs.Encoding.{IsRefusal, IsShortest, OnlyTooLong};
+ghost use Rattle.wasm_codec.specs.Encoding.{IsRefusal, IsMinimal, OnlyTooLong};
 ghost use Rattle.wasm_codec.specs.formats.Combinators.{items};
 ghost use Rattle.wasm_externals.specs.ClosedExpressions.{IsClosed, IsCountedExpr};
 ghost use Rattle.wasm_sections.specs.SegmentBytes.{table_and_offset_bytes};
@@ -25,8 +25,8 @@ pub(crate) fn append_table_and_offset<A: Allocator>(
 ) -> Result<(), EncodeError>
     ensures ok { OnOk result (sink.new.items ≡ sink.old.items ++ table_and_offset_bytes form index offset.now) }
     ensures can { OnOk result (IsCountedExpr offset.now) }
-    ensures index { OnOk result (IfSome index (IsShortest EncodesU32 unsigned_leb128)) }
-    ensures written { OnOk result (IsClosed offset.now → IsShortest expr.Encodes expr.bytes offset.now) }
+    ensures index { OnOk result (IfSome index (IsMinimal EncodesU32 unsigned_leb128)) }
+    ensures written { OnOk result (IsClosed offset.now → IsMinimal expr.Encodes expr.bytes offset.now) }
     ensures refused { IfErr result (IsRefusal IsCountedExpr OnlyTooLong offset.now) }
     ensures kept { take (length sink.old.items) sink.new.items ≡ sink.old.items }
 {

@@ -4,7 +4,7 @@ ghost use Rattle.wasm_codec.specs.Places.{Reads};
 ghost use Rattle.wasm_codec.specs.Rewriter.{Rewrites};
 ghost use Rattle.wasm_sections.specs.declared.tables.Table.{Table};
 ghost use Rattle.wasm_sections.specs.formats.Entries.{table_entry, filled_of, unfilled};
-ghost use Rattle.wasm_codec.specs.Encoding.{IsRefusal, IsShortest, OnlyTooLong};
+ghost use Rattle.wasm_codec.specs.Encoding.{IsRefusal, IsMinimal, OnlyTooLong};
 ghost use Rattle.wasm_sections.specs.ClosedEntries.{IsClosedTable, IsCountedTable};
 ghost use Rattle.wasm_sections.specs.SectionKinds.{table_section};
 ghost use Rattle.wasm_sections.specs.ListSections.{AddsItem, AddsCounted};
@@ -95,7 +95,7 @@ impl<'a> Readable<'a> for Table {
 fn append_table<A: Allocator>(table: &Table, sink: &mut Vec<u8, A>) -> Result<(), EncodeError>
     ensures ok { OnOk result (sink.new.items ≡ sink.old.items ++ table_entry.bytes table.now) }
     ensures can { OnOk result (IsCountedTable table.now) }
-    ensures written { OnOk result (IsClosedTable table.now → IsShortest table_entry.Encodes table_entry.bytes table.now) }
+    ensures written { OnOk result (IsClosedTable table.now → IsMinimal table_entry.Encodes table_entry.bytes table.now) }
     ensures refused { IfErr result (IsRefusal IsCountedTable OnlyTooLong table.now) }
     ensures kept { take (length sink.old.items) sink.new.items ≡ sink.old.items }
 {
@@ -117,7 +117,7 @@ fn append_table<A: Allocator>(table: &Table, sink: &mut Vec<u8, A>) -> Result<()
 impl Encode for Table {
     ghost bytes = { table_entry.bytes };
 
-    ghost IsWritten = { λ table. IsClosedTable table → IsShortest table_entry.Encodes table_entry.bytes table };
+    ghost IsWritten = { λ table. IsClosedTable table → IsMinimal table_entry.Encodes table_entry.bytes table };
 
     ghost CanEncode = { IsCountedTable };
 

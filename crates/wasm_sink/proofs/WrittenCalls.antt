@@ -19,16 +19,16 @@ use Rattle.wasm_instructions.proofs.InstructionLengths as lengths
 use Rattle.wasm_sink.specs.declared.sink.InstructionSink.{InstructionSink}
 use Rattle.wasm_sink.specs.Sink.{opcode_of, bytes_behind, Emits, EmitsAligned, GoesOn}
 use Rattle.wasm_sink.specs.ListCalls.{GivesItems}
-use Rattle.wasm_codec.specs.Encoding.{IsShortest}
+use Rattle.wasm_codec.specs.Encoding.{IsMinimal}
 use Rattle.wasm_codec.proofs.NumberLaws.{written}
 
 -- its opcode is short
 pub short_opcode : (prefix : Prefix) (number : ℕ) (k : Kind) → opcode_kind (opcode_of prefix number) ≡ Some k → IsShort (opcode_of prefix number)
 short_opcode prefix number k is = in_table_short (opcode_of prefix number) k is
 
--- its bytes are its shortest encoding
-pub shortest_call : (op : Opcode) (o : Operands) → IsCall op o → NumbersInRange o → ItemsInRange o → IsCounted o → IsShortest instruction.Encodes instruction.bytes (call op o)
-shortest_call op o is fits in_lists counted = written Lawful-instruction.shortest (call op o) (call_in_range op o is fits in_lists counted)
+-- its bytes are its minimal encoding
+pub minimal_call : (op : Opcode) (o : Operands) → IsCall op o → NumbersInRange o → ItemsInRange o → IsCounted o → IsMinimal instruction.Encodes instruction.bytes (call op o)
+minimal_call op o is fits in_lists counted = written Lawful-instruction.minimal (call op o) (call_in_range op o is fits in_lists counted)
 
 -- without a long list it has at most 20 bytes
 pub short_call : (op : Opcode) (o : Operands) → IsCall op o → NumbersInRange o → ItemsInRange o → HasNoLongList o → IsShortEncoding (instruction.bytes (call op o))
@@ -45,11 +45,11 @@ whole s t written op o mid same one two = then_put (bytes_behind s) mid (bytes_b
 
 -- what an emitter promises after it wrote an opcode and operands without a list
 pub emitted : {Z : Type 0} (s t : InstructionSink Z) (written op : Opcode) (o : Operands) (mid : List ℕ) → IsCall op o → written ≡ op → mid ≡ bytes_behind s ++ opcode.bytes written → bytes_behind t ≡ mid ++ (operands_format (kind_of o)).bytes o → t.bytes.ghost_name ≡ s.bytes.ghost_name → NumbersInRange o → ItemsInRange o → IsCounted o → HasNoLongList o → Emits s op o (Ok t)
-emitted s t written op o mid is opcode_is one two same fits in_lists counted no_list = record { wrote = (whole s t written op o mid opcode_is one two, shortest_call op o is fits in_lists counted, short_call op o is fits in_lists no_list); same = same; room = λ has. refl }
+emitted s t written op o mid is opcode_is one two same fits in_lists counted no_list = record { wrote = (whole s t written op o mid opcode_is one two, minimal_call op o is fits in_lists counted, short_call op o is fits in_lists no_list); same = same; room = λ has. refl }
 
 -- the same of a call with a memory argument of this alignment
 pub emitted_aligned : {Z : Type 0} (s t : InstructionSink Z) (written op : Opcode) (o : Operands) (align : ℕ) (mid : List ℕ) → IsCall op o → written ≡ op → mid ≡ bytes_behind s ++ opcode.bytes written → bytes_behind t ≡ mid ++ (operands_format (kind_of o)).bytes o → t.bytes.ghost_name ≡ s.bytes.ghost_name → NumbersInRange o → ItemsInRange o → HasEncoding o → HasNoLongList o → align < 64 → EmitsAligned s op o align (Ok t)
-emitted_aligned s t written op o align mid is opcode_is one two same fits in_lists has no_list below = record { wrote = (whole s t written op o mid opcode_is one two, shortest_call op o is fits in_lists has.1, short_call op o is fits in_lists no_list, has); same = same; alignment = search (rules); room = λ has_room aligned. refl }
+emitted_aligned s t written op o align mid is opcode_is one two same fits in_lists has no_list below = record { wrote = (whole s t written op o mid opcode_is one two, minimal_call op o is fits in_lists has.1, short_call op o is fits in_lists no_list, has); same = same; alignment = search (rules); room = λ has_room aligned. refl }
 
 -- the list that comes until the end is the one that the iterator is known to give
 pub given : {S A : Type 0} (gives : S → Option A → S → Type 0) (s : S) (xs all : List A) → Drains gives s xs → GivesItems gives s all → xs ≡ all

@@ -8,12 +8,12 @@ use Rattle.wasm_instructions.specs.declared.table.call.Operands.{Operands}
 use Rattle.wasm_codec.specs.declared.encode.EncodeError.{EncodeError}
 use Rattle.wasm_instructions.specs.formats.Instructions.{call}
 use Rattle.wasm_instructions.specs.Appending.{IsRefusedList}
-use Rattle.wasm_sink.specs.Sink.{GoesOn, IsShortestCall, IsSameSink}
+use Rattle.wasm_sink.specs.Sink.{GoesOn, IsMinimalCall, IsSameSink}
 
 module _ {S A : Type 0} (gives : S → Option A → S → Type 0) where
   -- The method appends the minimal encoding of its call with the list that the iterator gives.
   abbrev pub WritesItems : {Z : Type 0} → InstructionSink Z → Opcode → (List A → Operands) → S → Result (InstructionSink Z) EncodeError → Type 0
-  WritesItems s op operands items r = IfOk r (λ t. (xs : List A) × Drains gives items xs × GoesOn s (call op (operands xs)) t × IsShortestCall (call op (operands xs)) × (length xs < 2 ^ 32))
+  WritesItems s op operands items r = IfOk r (λ t. (xs : List A) × Drains gives items xs × GoesOn s (call op (operands xs)) t × IsMinimalCall (call op (operands xs)) × (length xs < 2 ^ 32))
 
   -- The iterator gives these items until it ends, whenever it is asked.
   abbrev pub GivesItems : S → List A → Type 0
@@ -37,7 +37,7 @@ module _ {S A : Type 0} (gives : S → Option A → S → Type 0) where
 module _ {Z : Type 0} where
   -- The method appends the minimal encoding of its call with a list of this length, or names the reason.
   abbrev pub WritesList : InstructionSink Z → Opcode → Operands → ℕ → Result (InstructionSink Z) EncodeError → Type 0
-  WritesList s op operands count r = MatchResult r (λ t. GoesOn s (call op operands) t × IsShortestCall (call op operands) × (count < 2 ^ 32)) (IsRefusedList count)
+  WritesList s op operands count r = MatchResult r (λ t. GoesOn s (call op operands) t × IsMinimalCall (call op operands) × (count < 2 ^ 32)) (IsRefusedList count)
 
   -- A method of an instruction with a list of this length, called on the sink `s`.
   pub record EmitsList (s : InstructionSink Z) (op : Opcode) (operands : Operands) (count : ℕ) (r : Result (InstructionSink Z) EncodeError) : Type 0 where

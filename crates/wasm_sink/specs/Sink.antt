@@ -12,7 +12,7 @@ use Rattle.wasm_instructions.specs.declared.table.call.Operands.{Operands}
 use Rattle.wasm_instructions.specs.formats.Instructions.{Instruction, Instructions, call, instruction, instructions_bytes}
 use Rattle.wasm_instructions.specs.Instructions.{IsCounted, HasEncoding, HasNoList}
 use Rattle.wasm_instructions.specs.Lengths.{HasNoLongList, IsShortEncoding}
-use Rattle.wasm_codec.specs.Encoding.{IsShortest, IsShortestOrLonger}
+use Rattle.wasm_codec.specs.Encoding.{IsMinimal, IsMinimalOrLonger}
 use Rattle.wasm_instructions.specs.Appending.{IsOperandsRefusal, IsCallRefusal, IsCallsRefusal}
 use Rattle.wasm_codec.specs.declared.encode.EncodeError.{EncodeError}
 use Rattle.wasm_codec.specs.declared.encode.EncodeError.TheVariants as errors
@@ -22,8 +22,8 @@ abbrev pub opcode_of : Prefix → ℕ → Opcode
 opcode_of prefix number = record { prefix = prefix; number = number }
 
 -- The written bytes encode the call, and every other encoding of it is longer.
-abbrev pub IsShortestCall : Instruction → Type 0
-IsShortestCall = IsShortest instruction.Encodes instruction.bytes
+abbrev pub IsMinimalCall : Instruction → Type 0
+IsMinimalCall = IsMinimal instruction.Encodes instruction.bytes
 
 module _ {Z : Type 0} where
   -- The bytes in the list behind the sink.
@@ -46,11 +46,11 @@ module _ {Z : Type 0} where
 
   -- The method appends the minimal encoding of its call, 1 to 20 bytes, or fails with `Memory`.
   abbrev pub Writes : InstructionSink Z → Opcode → Operands → Result (InstructionSink Z) EncodeError → Type 0
-  Writes s op operands r = MatchResult r (λ t. GoesOn s (call op operands) t × IsShortestCall (call op operands) × IsShortEncoding (instruction.bytes (call op operands))) (λ e. e ≡ errors.Memory)
+  Writes s op operands r = MatchResult r (λ t. GoesOn s (call op operands) t × IsMinimalCall (call op operands) × IsShortEncoding (instruction.bytes (call op operands))) (λ e. e ≡ errors.Memory)
 
   -- The method appends the minimal encoding of its call, 1 to 20 bytes, or names the reason.
   abbrev pub WritesBytes : InstructionSink Z → Opcode → Operands → Result (InstructionSink Z) EncodeError → Type 0
-  WritesBytes s op operands r = MatchResult r (λ t. GoesOn s (call op operands) t × IsShortestCall (call op operands) × IsShortEncoding (instruction.bytes (call op operands)) × HasEncoding operands) (IsOperandsRefusal operands)
+  WritesBytes s op operands r = MatchResult r (λ t. GoesOn s (call op operands) t × IsMinimalCall (call op operands) × IsShortEncoding (instruction.bytes (call op operands)) × HasEncoding operands) (IsOperandsRefusal operands)
 
   -- The method appends the call's minimal encoding, or names the reason.
   abbrev pub AppendsCall : InstructionSink Z → Instruction → Result (InstructionSink Z) EncodeError → Type 0
@@ -108,7 +108,7 @@ module _ {Z : Type 0} where
     -- The appended bytes encode the calls.
     pub encodes : IfOk r (λ _. Instructions (instructions_bytes calls) calls)
     -- Every other encoding of the calls is longer than the appended bytes.
-    pub shortest : (bytes : List ℕ) → Instructions bytes calls → IsShortestOrLonger bytes (instructions_bytes calls)
+    pub minimal : (bytes : List ℕ) → Instructions bytes calls → IsMinimalOrLonger bytes (instructions_bytes calls)
 
 module _ (A : RattleType) (heap : Ghosts A.Denot) where
   -- After an `Err` the list behind the sink is as it was.

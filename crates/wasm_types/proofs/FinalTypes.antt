@@ -14,13 +14,13 @@ use Rattle.wasm_types.specs.formats.Types.{composite_type, sub_of, sub_type}
 use Rattle.wasm_types.specs.TypeParts.{has_supertypes}
 
 unless_true : (p : Place) → unless true p ≡ place false p.left
-unless_true p = ap (λ (s : Bool). place s p.left) (and_false p.shortest) where
+unless_true p = ap (λ (s : Bool). place s p.left) (and_false p.minimal) where
   and_false : (b : Bool) → (b && false) ≡ false
   and_false true = refl
   and_false false = refl
 
 unless_false : (p : Place) → unless false p ≡ p
-unless_false p = ap (λ (s : Bool). place s p.left) (and_true p.shortest) where
+unless_false p = ap (λ (s : Bool). place s p.left) (and_true p.minimal) where
   and_true : (b : Bool) → (b && true) ≡ b
   and_true true = refl
   and_true false = refl

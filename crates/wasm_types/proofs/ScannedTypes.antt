@@ -1,11 +1,11 @@
--- Function types that are seen at once to be in their shortest encodings.
+-- Function types that are seen at once to be in their minimal encodings.
 use Rattle.std.proofs.Common.{◌≡◌, ◌⊎◌, ℕ, zero, suc, ◌+◌, ◌-◌, ◌<◌, ◌≤◌, true, false, List, [], ◌∷◌, ◌++◌, length, get_or, take, take_all, drop, drop-drop, length-drop, Some, None, refl, sym, subst, inl, inr, arith}
 use Rattle.std.specs.List.{AllByRecursion}
 use Rattle.std.proofs.lemmas.List.{take_more}
 use Rattle.std.proofs.lemmas.Bool.{cases_lt}
 use Rattle.wasm_codec.specs.Places.{place, byte_at, times_at}
 use Rattle.wasm_codec.specs.Scanning.{Scans}
-use Rattle.wasm_codec.specs.declared.rewriter.scan.Scanned.TheVariants.{Shortest}
+use Rattle.wasm_codec.specs.declared.rewriter.scan.Scanned.TheVariants.{Minimal}
 use Rattle.wasm_codec.specs.formats.Combinators.{Format}
 use Rattle.wasm_codec.proofs.NumberReading.{u32_one}
 use Rattle.wasm_types.specs.declared.types.heap.AbstractHeapType.{AbstractHeapType}
@@ -19,7 +19,7 @@ use Rattle.wasm_types.specs.formats.Types.{abstract_type, reference, ref_type, v
 -- ---- bytes that are a value type each
 
 abbrev pub IsWhole : ℕ → Type 0
-IsWhole b = (more : List ℕ) → Scans val_type (b ∷ more) (Some (Shortest 1))
+IsWhole b = (more : List ℕ) → Scans val_type (b ∷ more) (Some (Minimal 1))
 
 -- it holds of each number from one up to another
 abbrev pub Between : (ℕ → Type 0) → ℕ → ℕ → Type 0
@@ -96,25 +96,25 @@ types_read (suc count) (b ∷ bytes) within all =
     let vs = types_read count bytes (omega (arith, within)) all.1 in
     (v.0 ∷ vs.0, rw (v.1, vs.1) refl)
 
-behind_count : (count : ℕ) (bytes : List ℕ) → count < 128 → count ≤ length bytes → AreWhole (take count bytes) → Scans result_type (count ∷ bytes) (Some (Shortest (1 + count)))
+behind_count : (count : ℕ) (bytes : List ℕ) → count < 128 → count ≤ length bytes → AreWhole (take count bytes) → Scans result_type (count ∷ bytes) (Some (Minimal (1 + count)))
 unfolding result_type
 behind_count count bytes lt within all =
     let next : 1 + count ≡ suc count = omega arith in
     let t = types_read count bytes within all in
     (omega (arith, within), (t.0, rw (next, u32_one (place true (count ∷ bytes)) (place true bytes) count lt refl, t.1) refl))
 
-pub result_scanned : (bytes : List ℕ) (count : ℕ) → 0 < length bytes → get_or bytes 0 0 ≡ count → count < 128 → count ≤ length bytes - 1 → AreWhole (take count (drop 1 bytes)) → Scans result_type bytes (Some (Shortest (1 + count)))
+pub result_scanned : (bytes : List ℕ) (count : ℕ) → 0 < length bytes → get_or bytes 0 0 ≡ count → count < 128 → count ≤ length bytes - 1 → AreWhole (take count (drop 1 bytes)) → Scans result_type bytes (Some (Minimal (1 + count)))
 result_scanned [] count some is lt within all = absurd (omega (arith, some))
 result_scanned (first ∷ bytes) count some is lt within all =
-    subst (λ (n : ℕ). Scans result_type (n ∷ bytes) (Some (Shortest (1 + count)))) (sym is) (behind_count count bytes lt (omega (arith, within)) all)
+    subst (λ (n : ℕ). Scans result_type (n ∷ bytes) (Some (Minimal (1 + count)))) (sym is) (behind_count count bytes lt (omega (arith, within)) all)
 
 -- ---- function types
 
 -- the bytes from a start on
-pub from_start : {V : Type 0} (F : Format V) (bytes : List ℕ) (start count : ℕ) → Scans F (take (length bytes - start) (drop start bytes)) (Some (Shortest count)) → Scans F (drop start bytes) (Some (Shortest count))
-from_start F bytes start count r = subst (λ (l : List ℕ). Scans F l (Some (Shortest count))) (take_all (length bytes - start) (drop start bytes) (omega (arith, length-drop start bytes))) r
+pub from_start : {V : Type 0} (F : Format V) (bytes : List ℕ) (start count : ℕ) → Scans F (take (length bytes - start) (drop start bytes)) (Some (Minimal count)) → Scans F (drop start bytes) (Some (Minimal count))
+from_start F bytes start count r = subst (λ (l : List ℕ). Scans F l (Some (Minimal count))) (take_all (length bytes - start) (drop start bytes) (omega (arith, length-drop start bytes))) r
 
-behind_function : (bytes : List ℕ) (params results : ℕ) → Scans result_type bytes (Some (Shortest params)) → Scans result_type (drop params bytes) (Some (Shortest results)) → Scans recursive_type (0x60 ∷ bytes) (Some (Shortest (1 + params + results)))
+behind_function : (bytes : List ℕ) (params results : ℕ) → Scans result_type bytes (Some (Minimal params)) → Scans result_type (drop params bytes) (Some (Minimal results)) → Scans recursive_type (0x60 ∷ bytes) (Some (Minimal (1 + params + results)))
 unfolding recursive_type sub_type composite_type inner_type byte_at
 behind_function bytes params results p r =
     let all : 1 + params + results ≡ suc (params + results) = omega arith in
@@ -126,8 +126,8 @@ behind_function bytes params results p r =
       ),
     )
 
-pub function_scanned : (bytes : List ℕ) (params results : ℕ) → 0 < length bytes → get_or bytes 0 0 ≡ 0x60 → Scans result_type (drop 1 bytes) (Some (Shortest params)) → Scans result_type (drop (1 + params) bytes) (Some (Shortest results)) → Scans recursive_type bytes (Some (Shortest (1 + params + results)))
+pub function_scanned : (bytes : List ℕ) (params results : ℕ) → 0 < length bytes → get_or bytes 0 0 ≡ 0x60 → Scans result_type (drop 1 bytes) (Some (Minimal params)) → Scans result_type (drop (1 + params) bytes) (Some (Minimal results)) → Scans recursive_type bytes (Some (Minimal (1 + params + results)))
 function_scanned [] params results some is p r = absurd (omega (arith, some))
 function_scanned (first ∷ bytes) params results some is p r =
     let next : 1 + params ≡ suc params = omega arith in
-    subst (λ (b : ℕ). Scans recursive_type (b ∷ bytes) (Some (Shortest (1 + params + results)))) (sym is) (behind_function bytes params results p (rw next at r))
+    subst (λ (b : ℕ). Scans recursive_type (b ∷ bytes) (Some (Minimal (1 + params + results)))) (sym is) (behind_function bytes params results p (rw next at r))

@@ -32,12 +32,12 @@ types_read [] (ty ∷ types) s more all = absurd all
 types_read (b ∷ bytes) [] s more all = absurd all
 types_read (b ∷ bytes) (ty ∷ types) s more all = rw (all.0 s (bytes ++ more), types_read bytes types s more all.1) refl
 
-behind_count : (p mid : Place) (n : ℕ) (types : List ValType) → u32_at p ≡ Some (n, mid) → n ≤ length mid.left → AreTypes (take n mid.left) types → result_type.at p ≡ Some (types, place mid.shortest (drop n mid.left))
+behind_count : (p mid : Place) (n : ℕ) (types : List ValType) → u32_at p ≡ Some (n, mid) → n ≤ length mid.left → AreTypes (take n mid.left) types → result_type.at p ≡ Some (types, place mid.minimal (drop n mid.left))
 unfolding result_type
 behind_count p mid n types e le all =
     let len : length (take n mid.left) ≡ n = omega (arith, length-take n mid.left) in
-    let t = types_read (take n mid.left) types mid.shortest (drop n mid.left) all in
-    let u : times_at val_type.at n mid ≡ Some (types, place mid.shortest (drop n mid.left)) = rw (len, take-append-drop n mid.left) at t in
+    let t = types_read (take n mid.left) types mid.minimal (drop n mid.left) all in
+    let u : times_at val_type.at n mid ≡ Some (types, place mid.minimal (drop n mid.left)) = rw (len, take-append-drop n mid.left) at t in
     rw (e, u) refl
 
 guard_none : {A : Type 0} (test : Bool) (x y : A) → cond test None (Some x) ≡ Some y → (test ≡ false) × (x ≡ y)
@@ -46,9 +46,9 @@ guard_none false x y e = (refl, some_is x y e)
 
 pub list_read : (p q : Place) (bytes : List ℕ) (types : List ValType) → body_at p ≡ Some (bytes, q) → AreTypes bytes types → result_type.at p ≡ Some (types, q)
 list_read p q bytes types e all =
-    let s = bind_some (u32_at p) (λ size. cond (ltb (length size.1.left) size.0) None (Some (take size.0 size.1.left, place size.1.shortest (drop size.0 size.1.left)))) (bytes, q) e in
-    let g = guard_none (ltb (length s.0.1.left) s.0.0) (take s.0.0 s.0.1.left, place s.0.1.shortest (drop s.0.0 s.0.1.left)) (bytes, q) s.2 in
-    let same : (take s.0.0 s.0.1.left, place s.0.1.shortest (drop s.0.0 s.0.1.left)) ≡ (bytes, q) = g.1 in
+    let s = bind_some (u32_at p) (λ size. cond (ltb (length size.1.left) size.0) None (Some (take size.0 size.1.left, place size.1.minimal (drop size.0 size.1.left)))) (bytes, q) e in
+    let g = guard_none (ltb (length s.0.1.left) s.0.0) (take s.0.0 s.0.1.left, place s.0.1.minimal (drop s.0.0 s.0.1.left)) (bytes, q) s.2 in
+    let same : (take s.0.0 s.0.1.left, place s.0.1.minimal (drop s.0.0 s.0.1.left)) ≡ (bytes, q) = g.1 in
     let all_taken : AreTypes (take s.0.0 s.0.1.left) types = subst (λ (x : List ℕ × Place). AreTypes x.0 types) (sym same) all in
     subst (λ (x : List ℕ × Place). result_type.at p ≡ Some (types, x.1)) same (behind_count p s.0.1 s.0.0 types s.1 (ltb-false _ _ g.0) all_taken)
 

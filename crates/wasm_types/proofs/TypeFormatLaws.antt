@@ -18,7 +18,7 @@ use Rattle.wasm_codec.specs.formats.Grammar.{TakesBytes}
 use Rattle.wasm_codec.specs.formats.Combinators.{Choice, ◌⊗◌, made, or_else, after, flagged, u32, items}
 use Rattle.wasm_codec.proofs.FormatLaws.{IsFound, Every-made, Every-after, Every-either, Lawful-or-after, Lawful-or-after-long, Lawful-or-else, Lawful-variant-after, Lawful-made, Lawful-both, Lawful-variant, Lawful-flagged, Lawful-optional, Lawful-one-byte, Lawful-byte-or, Lawful-u32, Lawful-index, Lawful-items, Tagged-or, Tagged-never, takes_bytes, not_longer}
 use Rattle.wasm_codec.proofs.MinimalIfLaws.{list_minimal_only}
-use Rattle.wasm_types.specs.formats.Types.{abstract_byte, abstract_type, abstract_of, heap_type, reference, short_form, ref_type, number_byte, val_type, result_type, packed_byte, storage_type, mutability_byte, mutability, field_of, field_type, func_of, struct_of, array_of, cont_of, inner_type, composite_of, composite_type, sub_of, sub_type, recursive_type, type_body, ShortestTypeBody}
+use Rattle.wasm_types.specs.formats.Types.{abstract_byte, abstract_type, abstract_of, heap_type, reference, short_form, ref_type, number_byte, val_type, result_type, packed_byte, storage_type, mutability_byte, mutability, field_of, field_type, func_of, struct_of, array_of, cont_of, inner_type, composite_of, composite_type, sub_of, sub_type, recursive_type, type_body, MinimalTypeBody}
 use Rattle.wasm_types.specs.TypeParts.{abstract_types, abstract_parts, concrete_part, exact_part, nullable_part, has_short_form, number_types, ref_part, packed_types, val_part, func_parts, struct_part, array_part, cont_part, inner_byte, sub_parts, has_supertypes, rec_part, sub_part}
 use Rattle.wasm_codec.specs.Lawful.{IsLawful}
 
@@ -63,7 +63,7 @@ others = after (λ r. not r.nullable) 0x64 (made (reference false) (λ r. Some r
 -- a nullable abstract one has a shorter form
 nullable_loses : (back : List ℕ) (h : HeapType) → heap_type.Encodes back h → not (has_short_form (reference true h)) ≡ false → others.InRange (reference true h) × (length (others.bytes (reference true h)) ≤ length back)
 unfolding heap_type
-nullable_loses back (Abstract shared ty) g e = (((Lawful-heap-type.in_range back (Abstract shared ty) g).0, refl), not_longer back _ (Lawful-heap-type.shortest.least back (Abstract shared ty) g))
+nullable_loses back (Abstract shared ty) g e = (((Lawful-heap-type.in_range back (Abstract shared ty) g).0, refl), not_longer back _ (Lawful-heap-type.minimal.least back (Abstract shared ty) g))
 nullable_loses back (Concrete n) g e = absurd cc
 nullable_loses back (Exact n) g e = absurd cc
 
@@ -146,7 +146,7 @@ Lawful-supertypes = Lawful-both (Lawful-items Lawful-u32) Lawful-composite-type
 -- without supertypes 0x4F and an empty list are left out
 none_loses : (bytes : List ℕ) (supertypes : List ℕ) (c : CompositeType) → (items u32 ⊗ composite_type).Encodes bytes (supertypes, c) → has_supertypes supertypes ≡ false → without_supertypes.InRange (sub_of true (supertypes, c)) × (length (without_supertypes.bytes (sub_of true (supertypes, c))) ≤ length bytes)
 none_loses bytes [] c g e =
-    let whole : length ((items u32).bytes [] ++ composite_type.bytes c) ≤ length bytes = not_longer bytes _ (Lawful-supertypes.shortest.least bytes ([], c) g) in
+    let whole : length ((items u32).bytes [] ++ composite_type.bytes c) ≤ length bytes = not_longer bytes _ (Lawful-supertypes.minimal.least bytes ([], c) g) in
     let less : length (composite_type.bytes c) ≤ length bytes = omega (arith, whole, length-append ((items u32).bytes []) (composite_type.bytes c)) in
     ((Lawful-composite-type.in_range g.1 c g.4, refl), less)
 none_loses bytes (x ∷ supertypes) c g e = absurd cc
@@ -171,10 +171,10 @@ pub Lawful-type-body : IsLawful type_body
 unfolding type_body
 Lawful-type-body = Lawful-items Lawful-recursive-type
 
--- the encodings by shortest ones alone are the shortest encodings
-pub is_shortest_body : (bytes : List ℕ) (entries : List TypeEntry) → ShortestTypeBody bytes entries ↔ (type_body.Encodes bytes entries × (bytes ≡ type_body.bytes entries))
+-- the encodings by minimal ones alone are the minimal encodings
+pub is_minimal_body : (bytes : List ℕ) (entries : List TypeEntry) → MinimalTypeBody bytes entries ↔ (type_body.Encodes bytes entries × (bytes ≡ type_body.bytes entries))
 unfolding type_body
-is_shortest_body = list_minimal_only Lawful-recursive-type
+is_minimal_body = list_minimal_only Lawful-recursive-type
 
 -- ---- no value is encoded by no bytes
 

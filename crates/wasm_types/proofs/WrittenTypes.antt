@@ -1,4 +1,4 @@
--- Types that were written: they are in the range of their format, so what was written is their shortest encoding.
+-- Types that were written: they are in the range of their format, so what was written is their minimal encoding.
 use Rattle.std.proofs.Common.{ℕ, suc, Bool, true, false, List, [], ◌∷◌, length, Option, Some, None, Result, Ok, Err, OnOk, refl, arith}
 use Rattle.std.specs.Prelude.{IfSome}
 use Rattle.std.specs.List.{All, AllByRecursion}
@@ -21,7 +21,7 @@ use Rattle.wasm_types.specs.declared.types.composite.CompositeInnerType.TheVaria
 use Rattle.wasm_types.specs.declared.types.composite.CompositeType.{CompositeType}
 use Rattle.wasm_types.specs.declared.types.recursive.SubType.{SubType}
 use Rattle.wasm_types.specs.declared.types.recursive.TypeEntry.TheVariants as entries
-use Rattle.wasm_codec.specs.Encoding.{CanEncodeList, IsCount, IsShortest}
+use Rattle.wasm_codec.specs.Encoding.{CanEncodeList, IsCount, IsMinimal}
 use Rattle.wasm_codec.specs.Lawful.{IsLawful}
 use Rattle.wasm_codec.specs.formats.Numbers.{EncodesU32}
 use Rattle.wasm_codec.specs.Leb128.{unsigned_leb128}
@@ -36,11 +36,11 @@ use Rattle.wasm_types.proofs.TypeFormatLaws.{Lawful-abstract-type, Lawful-heap-t
 
 -- ---- formats
 
-is_written : {V : Type 0} (F : Format V) → IsLawful F → (v : V) → F.InRange v → IsShortest F.Encodes F.bytes v
-is_written F law v fits = written law.shortest v fits
+is_written : {V : Type 0} (F : Format V) → IsLawful F → (v : V) → F.InRange v → IsMinimal F.Encodes F.bytes v
+is_written F law v fits = written law.minimal v fits
 
 -- items that were written are in range
-pub all_in_range : {V : Type 0} (F : Format V) → IsLawful F → (vs : List V) → All (IsShortest F.Encodes F.bytes) vs → AllByRecursion F.InRange vs
+pub all_in_range : {V : Type 0} (F : Format V) → IsLawful F → (vs : List V) → All (IsMinimal F.Encodes F.bytes) vs → AllByRecursion F.InRange vs
 all_in_range F law [] h = tt
 all_in_range F law (v ∷ vs) h = (law.in_range (F.bytes v) v (h 0 v (omega arith)).encodes, all_in_range F law vs (λ k d lt. h (suc k) d (omega (arith, lt))))
 
@@ -55,7 +55,7 @@ unfolding abstract_type
 abstract_some abstracts.NoCont = refl
 abstract_some ty = refl
 
-pub abstract_written : (ty : AbstractHeapType) → IsShortest abstract_type.Encodes abstract_type.bytes ty
+pub abstract_written : (ty : AbstractHeapType) → IsMinimal abstract_type.Encodes abstract_type.bytes ty
 abstract_written ty = is_written abstract_type Lawful-abstract-type ty (abstract_some ty)
 
 pub heap_in_range : (h : HeapType) → HeapTypeFits h → heap_type.InRange h
@@ -65,7 +65,7 @@ heap_in_range (Abstract false ty) fits = ((abstract_some ty, refl), refl)
 heap_in_range (Concrete n) fits = (fits, refl)
 heap_in_range (Exact n) fits = (fits, refl)
 
-pub heap_written : (h : HeapType) → HeapTypeFits h → IsShortest heap_type.Encodes heap_type.bytes h
+pub heap_written : (h : HeapType) → HeapTypeFits h → IsMinimal heap_type.Encodes heap_type.bytes h
 heap_written h fits = is_written heap_type Lawful-heap-type h (heap_in_range h fits)
 
 of_parts : (nullable : Bool) (h : HeapType) → HeapTypeFits h → ref_type.InRange (reference nullable h)
@@ -76,7 +76,7 @@ of_parts true (Abstract false ty) fits = ((abstract_some ty, refl), refl)
 of_parts true (Concrete n) fits = (heap_in_range (Concrete n) fits, refl)
 of_parts true (Exact n) fits = (heap_in_range (Exact n) fits, refl)
 
-pub ref_written : (r : RefType) → HeapTypeFits r.heap_type → IsShortest ref_type.Encodes ref_type.bytes r
+pub ref_written : (r : RefType) → HeapTypeFits r.heap_type → IsMinimal ref_type.Encodes ref_type.bytes r
 ref_written r fits = is_written ref_type Lawful-ref-type r (of_parts r.nullable r.heap_type fits)
 
 pub val_in_range : (v : ValType) → ValTypeFits v → val_type.InRange v
@@ -88,7 +88,7 @@ val_in_range values.F64 fits = refl
 val_in_range values.V128 fits = refl
 val_in_range (values.Ref r) fits = (of_parts r.nullable r.heap_type fits, refl)
 
-pub val_written : (v : ValType) → ValTypeFits v → IsShortest val_type.Encodes val_type.bytes v
+pub val_written : (v : ValType) → ValTypeFits v → IsMinimal val_type.Encodes val_type.bytes v
 val_written v fits = is_written val_type Lawful-val-type v (val_in_range v fits)
 
 storage_in_range : (s : StorageType) → StorageTypeFits s → storage_type.InRange s
@@ -97,7 +97,7 @@ storage_in_range storages.I8 fits = refl
 storage_in_range storages.I16 fits = refl
 storage_in_range (storages.Val v) fits = (val_in_range v fits, refl)
 
-pub storage_written : (s : StorageType) → StorageTypeFits s → IsShortest storage_type.Encodes storage_type.bytes s
+pub storage_written : (s : StorageType) → StorageTypeFits s → IsMinimal storage_type.Encodes storage_type.bytes s
 storage_written s fits = is_written storage_type Lawful-storage-type s (storage_in_range s fits)
 
 -- ---- composite types
@@ -111,10 +111,10 @@ field_in_range : (f : FieldType) → StorageTypeFits f.element_type → field_ty
 unfolding field_type
 field_in_range f fits = ((storage_in_range f.element_type fits, mutable_in_range f.mutable), refl)
 
-pub field_written : (f : FieldType) → StorageTypeFits f.element_type → IsShortest field_type.Encodes field_type.bytes f
+pub field_written : (f : FieldType) → StorageTypeFits f.element_type → IsMinimal field_type.Encodes field_type.bytes f
 field_written f fits = is_written field_type Lawful-field-type f (field_in_range f fits)
 
-inner_written : (c : CompositeInnerType) → inner_type.InRange c → IsShortest inner_type.Encodes inner_type.bytes c
+inner_written : (c : CompositeInnerType) → inner_type.InRange c → IsMinimal inner_type.Encodes inner_type.bytes c
 inner_written c fits = is_written inner_type Lawful-inner-type c fits
 
 func_in_range : (f : FuncType) → IsCount (length f.params) → IsCount (length f.results) → AllByRecursion val_type.InRange f.params → AllByRecursion val_type.InRange f.results → inner_type.InRange (inner.Func f)
@@ -133,23 +133,23 @@ cont_in_range : (c : ContType) → index.InRange c.0 → inner_type.InRange (inn
 unfolding inner_type
 cont_in_range c fits = (fits, refl)
 
-pub func_written : (f : FuncType) → CanEncodeList (λ x. Unit {0}) f.params → CanEncodeList (λ x. Unit {0}) f.results → All (IsShortest val_type.Encodes val_type.bytes) f.params → All (IsShortest val_type.Encodes val_type.bytes) f.results → IsShortest inner_type.Encodes inner_type.bytes (inner.Func f)
+pub func_written : (f : FuncType) → CanEncodeList (λ x. Unit {0}) f.params → CanEncodeList (λ x. Unit {0}) f.results → All (IsMinimal val_type.Encodes val_type.bytes) f.params → All (IsMinimal val_type.Encodes val_type.bytes) f.results → IsMinimal inner_type.Encodes inner_type.bytes (inner.Func f)
 func_written f params results p r = inner_written (inner.Func f) (func_in_range f params.0 results.0 (all_in_range val_type Lawful-val-type f.params p) (all_in_range val_type Lawful-val-type f.results r))
 
-pub func_ok : {T E : Type 0} (r : Result T E) (f : FuncType) → CanEncodeList (λ x. Unit {0}) f.params → All (IsShortest val_type.Encodes val_type.bytes) f.params → OnOk r (CanEncodeList (λ x. Unit {0}) f.results) → OnOk r (All (IsShortest val_type.Encodes val_type.bytes) f.results)
-    → OnOk r (IsShortest inner_type.Encodes inner_type.bytes (inner.Func f))
+pub func_ok : {T E : Type 0} (r : Result T E) (f : FuncType) → CanEncodeList (λ x. Unit {0}) f.params → All (IsMinimal val_type.Encodes val_type.bytes) f.params → OnOk r (CanEncodeList (λ x. Unit {0}) f.results) → OnOk r (All (IsMinimal val_type.Encodes val_type.bytes) f.results)
+    → OnOk r (IsMinimal inner_type.Encodes inner_type.bytes (inner.Func f))
 func_ok (Err e) f params p results s = tt
 func_ok (Ok x) f params p results s = func_written f params results p s
 
-pub struct_ok : {T E : Type 0} (r : Result T E) (s : StructType) → OnOk r (CanEncodeList (λ x. Unit {0}) s.fields) → OnOk r (All (IsShortest field_type.Encodes field_type.bytes) s.fields)
-    → OnOk r (IsShortest inner_type.Encodes inner_type.bytes (inner.Struct s))
+pub struct_ok : {T E : Type 0} (r : Result T E) (s : StructType) → OnOk r (CanEncodeList (λ x. Unit {0}) s.fields) → OnOk r (All (IsMinimal field_type.Encodes field_type.bytes) s.fields)
+    → OnOk r (IsMinimal inner_type.Encodes inner_type.bytes (inner.Struct s))
 struct_ok (Err e) s count fields = tt
 struct_ok (Ok x) s count fields = inner_written (inner.Struct s) (struct_in_range s count.0 (all_in_range field_type Lawful-field-type s.fields fields))
 
-pub array_written : (a : ArrayType) → StorageTypeFits a.0.element_type → IsShortest inner_type.Encodes inner_type.bytes (inner.Array a)
+pub array_written : (a : ArrayType) → StorageTypeFits a.0.element_type → IsMinimal inner_type.Encodes inner_type.bytes (inner.Array a)
 array_written a fits = inner_written (inner.Array a) (array_in_range a (field_in_range a.0 fits))
 
-pub cont_written : (c : ContType) → IsShortest index.Encodes index.bytes c.0 → IsShortest inner_type.Encodes inner_type.bytes (inner.Cont c)
+pub cont_written : (c : ContType) → IsMinimal index.Encodes index.bytes c.0 → IsMinimal inner_type.Encodes inner_type.bytes (inner.Cont c)
 cont_written c h = inner_written (inner.Cont c) (cont_in_range c (in_range_of index Lawful-index c.0 h))
 
 -- ---- a shared type, its descriptor and what it describes
@@ -170,7 +170,7 @@ composite_in_range c describes descriptor fits = (
   refl,
 )
 
-pub composite_ok : {T E : Type 0} (r : Result T E) (c : CompositeType) → IfSome c.describes IsU32 → IfSome c.descriptor IsU32 → OnOk r (IsShortest inner_type.Encodes inner_type.bytes c.inner) → OnOk r (IsShortest composite_type.Encodes composite_type.bytes c)
+pub composite_ok : {T E : Type 0} (r : Result T E) (c : CompositeType) → IfSome c.describes IsU32 → IfSome c.descriptor IsU32 → OnOk r (IsMinimal inner_type.Encodes inner_type.bytes c.inner) → OnOk r (IsMinimal composite_type.Encodes composite_type.bytes c)
 composite_ok r c describes descriptor h = on_ok r _ _ (λ h. is_written composite_type Lawful-composite-type c (composite_in_range c describes descriptor (in_range_of inner_type Lawful-inner-type c.inner h))) h
 
 -- ---- subtypes and entries
@@ -181,7 +181,7 @@ by_parts false indexes c count fit fits = (((count, fit), fits), refl)
 by_parts true [] c count fit fits = (fits, refl)
 by_parts true (index ∷ indexes) c count fit fits = (((count, fit), fits), refl)
 
-pub sub_ok : {T E : Type 0} (r : Result T E) (s : SubType) → IsCount (length s.supertype_idxs) → All (IsShortest EncodesU32 unsigned_leb128) s.supertype_idxs → OnOk r (IsShortest composite_type.Encodes composite_type.bytes s.composite_type) → OnOk r (IsShortest sub_type.Encodes sub_type.bytes s)
+pub sub_ok : {T E : Type 0} (r : Result T E) (s : SubType) → IsCount (length s.supertype_idxs) → All (IsMinimal EncodesU32 unsigned_leb128) s.supertype_idxs → OnOk r (IsMinimal composite_type.Encodes composite_type.bytes s.composite_type) → OnOk r (IsMinimal sub_type.Encodes sub_type.bytes s)
 sub_ok r s count indexes h = on_ok r _ _ (λ h. is_written sub_type Lawful-sub-type s (by_parts s.is_final s.supertype_idxs s.composite_type count (all_in_range u32 Lawful-u32 s.supertype_idxs indexes) (in_range_of composite_type Lawful-composite-type s.composite_type h))) h
 
 alone_in_range : (s : SubType) → sub_type.InRange s → recursive_type.InRange (entries.Sub s)
@@ -192,12 +192,12 @@ group_in_range : (types : List SubType) → IsCount (length types) → AllByRecu
 unfolding recursive_type
 group_in_range types count fits = ((count, fits), refl)
 
-pub alone_ok : {T E : Type 0} (r : Result T E) (s : SubType) → OnOk r (IsShortest sub_type.Encodes sub_type.bytes s) → OnOk r (IsShortest recursive_type.Encodes recursive_type.bytes (entries.Sub s))
+pub alone_ok : {T E : Type 0} (r : Result T E) (s : SubType) → OnOk r (IsMinimal sub_type.Encodes sub_type.bytes s) → OnOk r (IsMinimal recursive_type.Encodes recursive_type.bytes (entries.Sub s))
 alone_ok r s h = on_ok r _ _ (λ h. is_written recursive_type Lawful-recursive-type (entries.Sub s) (alone_in_range s (in_range_of sub_type Lawful-sub-type s h))) h
 
-pub group_written : (types : List SubType) → CanEncodeList CountedSub types → All (IsShortest sub_type.Encodes sub_type.bytes) types → IsShortest recursive_type.Encodes recursive_type.bytes (entries.Rec types)
+pub group_written : (types : List SubType) → CanEncodeList CountedSub types → All (IsMinimal sub_type.Encodes sub_type.bytes) types → IsMinimal recursive_type.Encodes recursive_type.bytes (entries.Rec types)
 group_written types count h = is_written recursive_type Lawful-recursive-type (entries.Rec types) (group_in_range types count.0 (all_in_range sub_type Lawful-sub-type types h))
 
-pub group_ok : {T E : Type 0} (r : Result T E) (types : List SubType) → OnOk r (CanEncodeList CountedSub types) → OnOk r (All (IsShortest sub_type.Encodes sub_type.bytes) types) → OnOk r (IsShortest recursive_type.Encodes recursive_type.bytes (entries.Rec types))
+pub group_ok : {T E : Type 0} (r : Result T E) (types : List SubType) → OnOk r (CanEncodeList CountedSub types) → OnOk r (All (IsMinimal sub_type.Encodes sub_type.bytes) types) → OnOk r (IsMinimal recursive_type.Encodes recursive_type.bytes (entries.Rec types))
 group_ok (Err e) types count h = tt
 group_ok (Ok x) types count h = group_written types count h

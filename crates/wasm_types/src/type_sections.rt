@@ -4,7 +4,7 @@ ghost use Rattle.wasm_codec.specs.Outcomes.{LiesIn, as_decoded, as_read};
 ghost use Rattle.wasm_codec.specs.Decoding.{Checks, Decodes, DecodesMinimal, Normalises, NormalisesInPlace, NormalisesSlice, RewritesAll};
 ghost use Rattle.wasm_types.specs.PrefixFree.{TypesArePrefixFree};
 ghost use Rattle.wasm_types.specs.declared.types.recursive.TypeEntry.{TypeEntry};
-ghost use Rattle.wasm_types.specs.formats.Types.{IsShortestTypeBodyPrefix, IsTypeBodyPrefix, ShortestTypeBody, type_body};
+ghost use Rattle.wasm_types.specs.formats.Types.{IsMinimalTypeBodyPrefix, IsTypeBodyPrefix, MinimalTypeBody, type_body};
 
 use crate::types::TypeEntry;
 use std::alloc::Global;
@@ -52,7 +52,7 @@ pub fn read_type_section(alloc: Global, body: &[u8]) -> Result<Vec<TypeEntry>, R
 /// assert_eq!(rt; long_form.err(), Some(ReadError::Refused { at: 1 }));
 /// ```
 pub fn read_type_section_strict(alloc: Global, body: &[u8]) -> Result<Vec<TypeEntry>, ReadError>
-    ensures decodes { DecodesMinimal (λ entries. entries.items) type_body ShortestTypeBody IsShortestTypeBodyPrefix body.now result }
+    ensures decodes { DecodesMinimal (λ entries. entries.items) type_body MinimalTypeBody IsMinimalTypeBodyPrefix body.now result }
 {
     without_reason(read_list_to_end::<TypeEntry, true>(alloc, body))
 }
@@ -71,7 +71,7 @@ pub fn read_type_section_strict(alloc: Global, body: &[u8]) -> Result<Vec<TypeEn
 /// assert_eq!(rt; padded.err(), Some(ReadError::Refused { at: 0 }));
 /// ```
 pub fn check_type_section(alloc: Global, body: &[u8]) -> Result<(), ReadError>
-    ensures checks { Checks type_body ShortestTypeBody IsShortestTypeBodyPrefix body.now result }
+    ensures checks { Checks type_body MinimalTypeBody IsMinimalTypeBodyPrefix body.now result }
 {
     without_reason(check_list_to_end::<TypeEntry>(alloc, body))
 }
@@ -89,7 +89,7 @@ pub fn check_type_section(alloc: Global, body: &[u8]) -> Result<(), ReadError>
 /// assert_eq!(rt; minimal.as_slice(), b"\x01\x60\x00\x00".as_slice());
 /// ```
 pub fn normalise_type_section(alloc: Global, body: &[u8]) -> Result<Vec<u8>, ReadError>
-    ensures normalises { Normalises type_body ShortestTypeBody IsTypeBodyPrefix body.now result }
+    ensures normalises { Normalises type_body MinimalTypeBody IsTypeBodyPrefix body.now result }
 {
     body_bytes_of(alloc, body)
 }

@@ -13,9 +13,9 @@ mod value;
 pub use composite::{
     ArrayType, CompositeInnerType, CompositeType, ContType, FieldType, FuncType, StructType,
 };
-pub use function::is_whole_type;
 pub use heap::{
-    AbstractHeapType, HeapType, RefType, put_heap_type, put_ref_type, take_heap_type, take_ref_type,
+    AbstractHeapType, HeapType, RefType, put_heap_type, put_ref_type, scan_heap_type,
+    scan_type_index, take_heap_type, take_ref_type,
 };
 pub use recursive::{SubType, TypeEntry};
-pub use value::{StorageType, ValType, put_val_type, take_val_type};
+pub use value::{StorageType, ValType, is_whole_type, put_val_type, scan_val_type, take_val_type};

@@ -12,7 +12,7 @@ use Rattle.wasm_modules.specs.RefusalNumbers.{CountsParts}
 use Rattle.wasm_codec.specs.formats.Combinators.{minimal_only}
 use Rattle.wasm_code.specs.Judging.{verdict_of}
 use Rattle.wasm_code.specs.Modules.{IsModulePrefixOf}
-use Rattle.wasm_sections.specs.formats.ModuleSections.{KeepsMinimal, ShortestWholeModule, module_section, whole_module}
+use Rattle.wasm_sections.specs.formats.ModuleSections.{KeepsMinimal, MinimalWholeModule, module_section, whole_module}
 use Rattle.wasm_sections.proofs.RawSections.{minimal_normal, normal_minimal}
 use Rattle.wasm_custom_sections.specs.LongerContents.{HasLongerContents, IsFirstLonger}
 use Rattle.wasm_custom_sections.specs.MovedHints.{IsCodeOf}
@@ -32,26 +32,26 @@ use Rattle.wasmcanon.specs.declared.run.Verdict.TheVariants as verdicts
 -- ---- the verdict on a module
 
 -- a module that was minimally encoded is its own canonical form, and it stays: its contents are judged in the new bytes
-pub contents_judged : (names : Bool) (input : List ℕ) (bytes : Vec ℕ) (verdict : Verdict) → NormalisesInPlace whole_module (IsModulePrefixOf module_section) input (Ok bytes) → Checks whole_module ShortestWholeModule (IsModulePrefixOf (minimal_only module_section)) input (Ok tt) → (IsCanonicalForm bytes.items bytes.items → Judges names bytes.items verdict) → Judges names input verdict
+pub contents_judged : (names : Bool) (input : List ℕ) (bytes : Vec ℕ) (verdict : Verdict) → NormalisesInPlace whole_module (IsModulePrefixOf module_section) input (Ok bytes) → Checks whole_module MinimalWholeModule (IsModulePrefixOf (minimal_only module_section)) input (Ok tt) → (IsCanonicalForm bytes.items bytes.items → Judges names bytes.items verdict) → Judges names input verdict
 contents_judged names input bytes verdict form check judges =
     let value = check.given.0 in
-    let shortest = (check.shortest value).0 check.given.1 in
-    let stays = form.complete value shortest.0 ∙ sym shortest.1 in
-    let canonical : IsCanonicalForm input input = record { value = value; encoded = shortest.0; is_shortest = shortest.1 } in
+    let minimal = (check.minimal value).0 check.given.1 in
+    let stays = form.complete value minimal.0 ∙ sym minimal.1 in
+    let canonical : IsCanonicalForm input input = record { value = value; encoded = minimal.0; is_minimal = minimal.1 } in
     subst (λ (b : List ℕ). Judges names b verdict) stays (judges (subst (λ (b : List ℕ). IsCanonicalForm b b) (sym stays) canonical))
 
 -- a module in which a part is longer isn't canonical, whatever its contents are
-pub longer_judged : (names : Bool) (input : List ℕ) (bytes : Vec ℕ) (refusal : Refusal) → NormalisesInPlace whole_module (IsModulePrefixOf module_section) input (Ok bytes) → Checks whole_module ShortestWholeModule (IsModulePrefixOf (minimal_only module_section)) input (verdict_of (Some refusal)) → Judges names input (verdicts.Longer refusal)
+pub longer_judged : (names : Bool) (input : List ℕ) (bytes : Vec ℕ) (refusal : Refusal) → NormalisesInPlace whole_module (IsModulePrefixOf module_section) input (Ok bytes) → Checks whole_module MinimalWholeModule (IsModulePrefixOf (minimal_only module_section)) input (verdict_of (Some refusal)) → Judges names input (verdicts.Longer refusal)
 longer_judged names input bytes refusal form check = by names where
   longer : IsLonger input refusal.at
-  longer = ((λ same. check.unencoded same.value ((check.shortest same.value).1 (same.encoded, same.is_shortest))), check.prefix)
+  longer = ((λ same. check.unencoded same.value ((check.minimal same.value).1 (same.encoded, same.is_minimal))), check.prefix)
 
   by : (names : Bool) → Judges names input (verdicts.Longer refusal)
   by false = ((form.given.value, form.given.encoded), longer)
   by true = ((form.given.value, form.given.encoded), inl longer)
 
 -- a canonical module whose contents are longer
-pub longer_contents : (names : Bool) (input : List ℕ) (refusal : Refusal) → names ≡ true → HasLongerContents input → (EncodesSome ShortestWholeModule input → IsFirstLonger input refusal.at) → IsCanonicalForm input input → Judges names input (verdicts.Longer refusal)
+pub longer_contents : (names : Bool) (input : List ℕ) (refusal : Refusal) → names ≡ true → HasLongerContents input → (EncodesSome MinimalWholeModule input → IsFirstLonger input refusal.at) → IsCanonicalForm input input → Judges names input (verdicts.Longer refusal)
 longer_contents false input refusal is longer first canonical = absurd (true≢false (sym is))
 longer_contents true input refusal is longer first canonical = ((canonical.value, canonical.encoded), inr (canonical, longer, first (normal_minimal input input canonical)))
 

@@ -4,7 +4,7 @@ use Rattle.std.specs.Prelude.{IfNone, IfSome, String, string_bytes}
 use Rattle.std.proofs.lemmas.Bool.{eqb-true, true≢false}
 use Rattle.std.specs.Global.{Global}
 use Rattle.wasm_code.specs.formats.Sections.{SectionParts}
-use Rattle.wasm_codec.specs.Encoding.{IsShortestOrLonger}
+use Rattle.wasm_codec.specs.Encoding.{IsMinimalOrLonger}
 use Rattle.wasm_sections.specs.formats.ModuleSections.{whole_module}
 use Rattle.wasm_sections.proofs.ModuleSectionLaws.{whole_module_is_lawful}
 use Rattle.wasm_modules.specs.Offsets.{IsNameOf}
@@ -37,10 +37,10 @@ if_none (Some a) P holds = tt
 
 -- a canonical form as long as the input is the input
 pub unmoved : (input form : List ℕ) → IsCanonicalForm input form → length form ≡ length input → form ≡ input
-unmoved input form canonical same = by (whole_module_is_lawful.shortest.least input canonical.value canonical.encoded) where
-  by : IsShortestOrLonger input (whole_module.bytes canonical.value) → form ≡ input
-  by (inl is) = canonical.is_shortest ∙ sym is
-  by (inr shorter) = absurd (lt_irrefl (length input) (subst (λ (n : ℕ). n < length input) (sym (ap length canonical.is_shortest) ∙ same) shorter))
+unmoved input form canonical same = by (whole_module_is_lawful.minimal.least input canonical.value canonical.encoded) where
+  by : IsMinimalOrLonger input (whole_module.bytes canonical.value) → form ≡ input
+  by (inl is) = canonical.is_minimal ∙ sym is
+  by (inr shorter) = absurd (lt_irrefl (length input) (subst (λ (n : ℕ). n < length input) (sym (ap length canonical.is_minimal) ∙ same) shorter))
 
 pub known_unmoved : (known : Option (List ℕ)) (moved : Bool) (bytes form : List ℕ) → IfSome known (λ input. bytes ≡ input) → (moved ≡ false → form ≡ bytes) → moved ≡ false → IfSome known (λ input. form ≡ input)
 known_unmoved None moved bytes form read stays same = tt

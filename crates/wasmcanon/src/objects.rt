@@ -27,8 +27,7 @@ fn has_object_section(sections: &[u8]) -> bool
 {
     let mut cursor = Cursor::new(sections);
     while cursor.len() > 0 {
-        // `fork` shows the proof that all remaining items are bytes.
-        let _start = cursor.fork();
+        cursor.are_bytes();
         let Ok(section) = read_section(&mut cursor) else {
             // Malformed bytes encode no sections.
             return false;

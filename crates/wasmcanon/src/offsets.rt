@@ -51,8 +51,7 @@ fn names_in(alloc: Global, sections: &[u8], hints_moved: bool) -> Result<Vec<Str
     let mut names = Vec::new(alloc);
     let mut cursor = Cursor::new(sections);
     while cursor.len() > 0 {
-        // `fork` shows the proof that all remaining items are bytes.
-        let _start = cursor.fork();
+        cursor.are_bytes();
         let Ok(section) = read_section(&mut cursor) else {
             // Malformed bytes encode no sections.
             return Ok(names);

@@ -27,7 +27,7 @@ use wasm_codec::reader::refusal::Refusal;
 use wasm_codec::streams::write_all;
 use wasm_custom_sections::moved_hints::HintedCode;
 use wasm_modules::counting::{SectionWatcher, rewrite_watched};
-use wasm_modules::modules::{WholeModule, judge_whole_module};
+use wasm_modules::modules::{WholeModule, rewrite_and_check_whole_module};
 use wasm_modules::order::ModuleError;
 use wasm_modules::selection::{Sections, choose_sections};
 
@@ -400,7 +400,7 @@ fn judge(alloc: Global, input: Vec<u8>, names: bool) -> Result<Verdict, Failure>
     ensures accepts { Accepts true input.items (outcome_of result) }
     ensures numbers { IfPlaced result (CountsParts module_section input.items) }
 {
-    match judge_whole_module(input) {
+    match rewrite_and_check_whole_module(input) {
         Ok(judged) => match judged.longer {
             None => {
                 // The module is unchanged.

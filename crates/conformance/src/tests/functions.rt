@@ -61,6 +61,21 @@ fn a_function_with_locals(rt: HostRuntime) -> Result<(), Fail> {
     is_apart(rt.alloc(), code, &function)
 }
 
+/// A function that is restarted has its new locals, and nothing of before, whether it gets longer or shorter.
+#[test]
+fn a_function_restarted(rt: HostRuntime) -> Result<(), Fail> {
+    let mut function = Function::new(rt.alloc(), NO_LOCALS.iter().copied())?;
+    append_sum(function.bytes_mut())?;
+    function.restart(LOCALS)?;
+    is_encoded(rt.alloc(), &function, "0502027F0170")?;
+    function.instructions().end()?;
+    is_encoded(rt.alloc(), &function, "0602027F01700B")?;
+    function.restart([])?;
+    is_encoded(rt.alloc(), &function, "0100")?;
+    append_sum(function.bytes_mut())?;
+    is_encoded(rt.alloc(), &function, "0700200020016A0B")
+}
+
 /// The function is added to the section, and not to its copy.
 fn is_apart(alloc: Global, mut code: CodeSection, function: &Function) -> Result<(), Fail> {
     let copy = code.try_clone()?;

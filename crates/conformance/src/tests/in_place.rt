@@ -2,7 +2,7 @@
 
 use std::alloc::Global;
 use std::test::Fail;
-use wasm_encoder::sections::judge_in_place;
+use wasm_encoder::sections::rewrite_and_check_in_place;
 use wasm_encoder::{
     Error, FunctionSection, Instructions, Module, Reason, TypeSection, WholeModule, normalise,
     rewrite_code_section_in_place, rewrite_in_place, rewrite_instructions_in_place,
@@ -76,17 +76,17 @@ fn a_refusal_says_why(rt: HostRuntime) -> Result<(), Fail> {
 }
 
 #[test]
-fn a_module_is_judged(rt: HostRuntime) -> Result<(), Fail> {
+fn a_module_is_rewritten_and_checked(rt: HostRuntime) -> Result<(), Fail> {
     let mut bytes = *b"\0asm\x01\0\0\0\x08\x02\x85\x00"; // the index 5 in two bytes
-    let judged = judge_in_place(&mut bytes)?;
-    assert_eq!(rt; judged.len, 11);
+    let checked = rewrite_and_check_in_place(&mut bytes)?;
+    assert_eq!(rt; checked.len, 11);
     assert_eq!(rt;
-        judged.longer.map(|refusal| (refusal.at, refusal.offset)),
+        checked.longer.map(|refusal| (refusal.at, refusal.offset)),
         Some((8, 10))
     );
-    let judged = judge_in_place(&mut bytes[..judged.len])?;
-    assert_eq!(rt; judged.len, 11);
-    assert!(rt; judged.longer.is_none());
+    let checked = rewrite_and_check_in_place(&mut bytes[..checked.len])?;
+    assert_eq!(rt; checked.len, 11);
+    assert!(rt; checked.longer.is_none());
     Ok(())
 }
 

@@ -61,9 +61,9 @@ abbrev pub IsCodeSectionBodyPrefix : List ℕ → Type 0
 IsCodeSectionBodyPrefix = IsListPrefix code_body.Encodes
 
 -- The bytes encode these code bodies, with the count and each body minimally encoded.
-abbrev pub ShortestCodeSectionBody : Grammar (List CodeBody)
-ShortestCodeSectionBody = ListMinimalIf true code_body
+abbrev pub MinimalCodeSectionBody : Grammar (List CodeBody)
+MinimalCodeSectionBody = ListMinimalIf true code_body
 
 -- The prefix is empty, or it is a count and at most as many code bodies, all minimally encoded.
-abbrev pub IsShortestCodeSectionBodyPrefix : List ℕ → Type 0
-IsShortestCodeSectionBodyPrefix = IsListPrefixMinimalIf true code_body
+abbrev pub IsMinimalCodeSectionBodyPrefix : List ℕ → Type 0
+IsMinimalCodeSectionBodyPrefix = IsListPrefixMinimalIf true code_body

@@ -68,8 +68,8 @@ abbrev pub module_minimal_if : Bool → Format (List SectionParts)
 module_minimal_if strict = module_of (minimal_if strict raw_section)
 
 -- The bytes encode these sections, each with its size minimally encoded.
-abbrev pub ShortestModule : Grammar (List SectionParts)
-ShortestModule = (module_minimal_if true).Encodes
+abbrev pub MinimalModule : Grammar (List SectionParts)
+MinimalModule = (module_minimal_if true).Encodes
 
 -- A module whose type and code sections are decoded.
 abbrev pub typed_module : Format (List TypedSection)

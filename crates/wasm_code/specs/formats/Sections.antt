@@ -1,5 +1,5 @@
 -- The parts of a module: sections with their bodies as bytes, or with their content.
-use Rattle.std.specs.Prelude.{ℕ, List, [], ◌∷◌, map}
+use Rattle.std.specs.Prelude.{ℕ, ◌==◌, List, [], ◌∷◌, map, Option, Some, None, if◌then◌else◌}
 use Rattle.wasm_types.specs.declared.types.recursive.TypeEntry.{TypeEntry}
 use Rattle.wasm_code.specs.declared.code.CodeBody.{CodeBody}
 use Rattle.wasm_code.specs.declared.section.RawSection.{RawSection}
@@ -32,6 +32,11 @@ parts_of section = record { id = section.id; body = section.body.now }
 -- The ids and the bodies of sections that borrow from the input.
 abbrev pub all_parts_of : List RawSection → List SectionParts
 all_parts_of = map parts_of
+
+-- The body of the first section with this id, if there is one.
+abbrev pub first_body_of : ℕ → List SectionParts → Option (List ℕ)
+first_body_of id [] = None
+first_body_of id (section ∷ sections) = if section.id == id then Some section.body else first_body_of id sections
 
 -- The content of a section: the entries of a type section, the bodies of a code section, or any other's bytes.
 pub data Content : Type 0 where

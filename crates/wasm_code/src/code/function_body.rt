@@ -106,7 +106,7 @@ fn read_function_body<'a>(alloc: Global, cursor: &mut Cursor<'a>) -> Result<Func
     let locals = read_locals(alloc, &mut body)?;
     let count = body.len();
     let instructions = body.take(count, Construct::Body)?;
-    cursor.set_shortest(body.is_shortest());
+    cursor.set_minimal(body.is_minimal());
     Ok(FunctionBody {
         locals,
         instructions,

@@ -3,13 +3,13 @@ ghost use Rattle.std.specs.Prelude.{◌≡◌, ℕ, List, Some, IfErr, IfSome, l
 ghost use Rattle.wasm_codec.specs.Places.{Reads};
 ghost use Rattle.wasm_codec.specs.Rewriter.{Rewrites};
 ghost use Rattle.wasm_codec.specs.Scanning.{Scans};
-ghost use Rattle.wasm_codec.specs.declared.rewriter.scan.Scanned.TheVariants.{Shortest};
+ghost use Rattle.wasm_codec.specs.declared.rewriter.scan.Scanned.TheVariants.{Minimal};
 ghost use Rattle.wasm_codec.specs.formats.Combinators.{items};
 ghost use Rattle.wasm_codec.specs.Outcomes.{IsMalformed, LiesIn, as_decoded, as_read};
 ghost use Rattle.wasm_types.specs.declared.types.value.ValType.{ValType};
 ghost use Rattle.wasm_instructions.specs.formats.Instructions.{Instruction};
 ghost use Rattle.wasm_code.specs.declared.code.CodeBody.{CodeBody};
-ghost use Rattle.wasm_code.specs.formats.CodeBodies.{local_group, function_code, code_body, code_section_body, IsCodeSectionBodyPrefix, ShortestCodeSectionBody};
+ghost use Rattle.wasm_code.specs.formats.CodeBodies.{local_group, function_code, code_body, code_section_body, IsCodeSectionBodyPrefix, MinimalCodeSectionBody};
 ghost use Rattle.wasm_codec.specs.Decoding.{Normalises, NormalisesInPlace, NormalisesSlice, RewritesAll};
 
 use crate::code::CodeBody;
@@ -18,13 +18,12 @@ use wasm_codec::reader::cursor::{Cursor, Fault};
 use wasm_codec::reader::refusal::Refusal;
 use wasm_codec::reader::{ReadError, without_memory, without_reason};
 use wasm_codec::rewriter::{Part, Rewriter, Scanned, scan_u32};
-use wasm_instructions::normaliser::scan_val_type;
 use wasm_instructions::table::Call;
 use wasm_lists::rewriting::{
     Rewritable, RewritableBody, begins_run, rewrite_list, rewrite_list_to_end, rewrite_sized,
     rewrite_to_end,
 };
-use wasm_types::types::{ValType, take_val_type};
+use wasm_types::types::{ValType, scan_val_type, take_val_type};
 
 /// Returns the minimal encoding of the code bodies in a code section body (Core 3.0, Code Section).
 ///
@@ -39,7 +38,7 @@ use wasm_types::types::{ValType, take_val_type};
 /// assert_eq!(rt; minimal.as_slice(), b"\x01\x02\x00\x0b".as_slice());
 /// ```
 pub fn normalise_code_section(alloc: Global, body: &[u8]) -> Result<Vec<u8>, ReadError>
-    ensures normalises { Normalises code_section_body ShortestCodeSectionBody IsCodeSectionBodyPrefix body.now result }
+    ensures normalises { Normalises code_section_body MinimalCodeSectionBody IsCodeSectionBodyPrefix body.now result }
 {
     bodies_bytes_of(alloc, body)
 }
@@ -132,7 +131,7 @@ fn scan_short_body(bytes: &[u8]) -> Option<Scanned>
     }
     let count = usize::from(bytes[0]) - 1;
     if begins_run::<Call>(&bytes[2..], count) {
-        Some(Scanned::Shortest(2 + count))
+        Some(Scanned::Minimal(2 + count))
     } else {
         None
     }
@@ -177,7 +176,7 @@ fn rewrite_function_code(rewriter: &mut Rewriter) -> Result<(), Fault>
 }
 
 /// Rewrites the groups of locals. A fault carries the number of its group.
-pub(crate) fn rewrite_locals(rewriter: &mut Rewriter) -> Result<(), Fault>
+pub fn rewrite_locals(rewriter: &mut Rewriter) -> Result<(), Fault>
     ensures rewrites { Rewrites (items local_group) rewriter.old rewriter.new result }
 {
     let start = rewriter.start();
@@ -206,7 +205,7 @@ impl Rewritable for LocalGroup {
     fn rewrite(rewriter: &mut Rewriter) -> Result<(), Fault> {
         rewriter.are_bytes();
         if let Some(count) = scan_local_group(rewriter.left()) {
-            rewriter.rewrite_scanned(Scanned::Shortest(count));
+            rewriter.rewrite_scanned(Scanned::Minimal(count));
             return Ok(());
         }
         let start = rewriter.start();
@@ -222,9 +221,9 @@ impl Rewritable for LocalGroup {
 /// encoded.
 #[inline(always)]
 fn scan_local_group(bytes: &[u8]) -> Option<usize>
-    ensures { IfSome result (λ count. Scans local_group bytes.now (Some (Shortest count))) }
+    ensures { IfSome result (λ count. Scans local_group bytes.now (Some (Minimal count))) }
 {
-    let Some(Scanned::Shortest(count)) = scan_u32(bytes) else {
+    let Some(Scanned::Minimal(count)) = scan_u32(bytes) else {
         return None;
     };
     let ty = scan_val_type(&bytes[count..])?;

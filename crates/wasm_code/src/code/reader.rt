@@ -4,7 +4,7 @@ ghost use Rattle.wasm_codec.specs.Outcomes.{IsMalformed};
 ghost use Rattle.wasm_codec.specs.Places.{Reads};
 ghost use Rattle.wasm_codec.specs.formats.Combinators.{items};
 ghost use Rattle.wasm_code.specs.declared.code.CodeBody.{CodeBody};
-ghost use Rattle.wasm_code.specs.formats.CodeBodies.{local_group, code_body, code_section_body, IsCodeSectionBodyPrefix, ShortestCodeSectionBody, IsShortestCodeSectionBodyPrefix};
+ghost use Rattle.wasm_code.specs.formats.CodeBodies.{local_group, code_body, code_section_body, IsCodeSectionBodyPrefix, MinimalCodeSectionBody, IsMinimalCodeSectionBodyPrefix};
 ghost use Rattle.wasm_codec.specs.Decoding.{Decodes, DecodesMinimal, Checks};
 ghost use Rattle.wasm_code.specs.PrefixFree.{CodeBodiesArePrefixFree};
 
@@ -61,7 +61,7 @@ pub fn read_code_section(alloc: Global, body: &[u8]) -> Result<Vec<CodeBody>, Re
 /// assert_eq!(rt; padded.err(), Some(ReadError::Refused { at: 1 }));
 /// ```
 pub fn read_code_section_strict(alloc: Global, body: &[u8]) -> Result<Vec<CodeBody>, ReadError>
-    ensures decodes { DecodesMinimal (λ bodies. bodies.items) code_section_body ShortestCodeSectionBody IsShortestCodeSectionBodyPrefix body.now result }
+    ensures decodes { DecodesMinimal (λ bodies. bodies.items) code_section_body MinimalCodeSectionBody IsMinimalCodeSectionBodyPrefix body.now result }
 {
     without_reason(read_list_to_end::<CodeBody, true>(alloc, body))
 }
@@ -97,7 +97,7 @@ fn read_code_body(alloc: Global, cursor: &mut Cursor<'_>) -> Result<CodeBody, Fa
     let mut code = cursor.body()?;
     let locals = read_locals(alloc, &mut code)?;
     let calls = read_calls(alloc, &mut code)?;
-    cursor.set_shortest(code.is_shortest());
+    cursor.set_minimal(code.is_minimal());
     Ok(CodeBody { locals, calls })
 }
 
@@ -146,7 +146,7 @@ fn read_numbered_group(cursor: &mut Cursor<'_>, index: u32) -> Result<(u32, ValT
 /// assert_eq!(rt; padded.err(), Some(ReadError::Refused { at: 1 }));
 /// ```
 pub fn check_code_section(alloc: Global, body: &[u8]) -> Result<(), ReadError>
-    ensures checks { Checks code_section_body ShortestCodeSectionBody IsShortestCodeSectionBodyPrefix body.now result }
+    ensures checks { Checks code_section_body MinimalCodeSectionBody IsMinimalCodeSectionBodyPrefix body.now result }
 {
     without_reason(check_list_to_end::<CodeBody>(alloc, body))
 }

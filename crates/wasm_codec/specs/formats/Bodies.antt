@@ -19,7 +19,7 @@ at_end (b ∷ bytes) = false
 abbrev pub bytes_to_end : Format (List ℕ)
 bytes_to_end = record {
   Encodes = λ bytes v. (bytes ≡ v) × IsBytes v;
-  at = λ p. Some (p.left, place p.shortest []);
+  at = λ p. Some (p.left, place p.minimal []);
   bytes = λ v. v;
   InRange = IsBytes;
   first = λ b. true;
@@ -53,7 +53,7 @@ Sized G bytes v = (size : List ℕ) × (body : List ℕ) × (bytes ≡ size ++ b
 abbrev pub body_at : Reader (List ℕ)
 body_at p = do
   size ← u32_at p
-  if nat_lt (length size.1.left) size.0 then None else Some (take size.0 size.1.left, place size.1.shortest (drop size.0 size.1.left))
+  if nat_lt (length size.1.left) size.0 then None else Some (take size.0 size.1.left, place size.1.minimal (drop size.0 size.1.left))
 
 -- The value that was read, if no bytes are left over.
 abbrev pub if_all : {A : Type 0} → Option (A × Place) → Option (A × Place)
@@ -64,8 +64,8 @@ if_all (Some x) = if at_end x.1.left then Some x else None
 abbrev pub sized_at : {A : Type 0} → Reader A → Reader A
 sized_at read p = do
   body ← body_at p
-  v ← if_all (read (place body.1.shortest body.0))
-  Some (v.0, place v.1.shortest body.1.left)
+  v ← if_all (read (place body.1.minimal body.0))
+  Some (v.0, place v.1.minimal body.1.left)
 
 -- A size, then as many bytes, which are one encoding.
 abbrev pub sized : {A : Type 0} → Format A → Format A

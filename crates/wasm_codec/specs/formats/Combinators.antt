@@ -324,14 +324,14 @@ all_bytes F = flat_map F.bytes
 -- ---- minimal encodings alone
 
 -- The value, if everything read for it was minimally encoded.
-abbrev pub only_shortest : {A : Type 0} → Bool → A × Place → Option (A × Place)
-only_shortest s v = if v.1.shortest then Some (v.0, place s v.1.left) else None
+abbrev pub only_minimal : {A : Type 0} → Bool → A × Place → Option (A × Place)
+only_minimal s v = if v.1.minimal then Some (v.0, place s v.1.left) else None
 
 -- The minimal encodings alone.
 abbrev pub minimal_only : {A : Type 0} → Format A → Format A
 minimal_only F = record {
   Encodes = λ bytes v. F.Encodes bytes v × (bytes ≡ F.bytes v);
-  at = λ p. F.at (place true p.left) >>= λ v. only_shortest p.shortest v;
+  at = λ p. F.at (place true p.left) >>= λ v. only_minimal p.minimal v;
   bytes = F.bytes;
   InRange = F.InRange;
   first = F.first;

@@ -1,6 +1,6 @@
 //! Writers of LEB128 numbers into reserved room (Core 3.0, Integers).
 ghost use Rattle.std.specs.Prelude.{◌≡◌, ◌++◌, ◌∷◌, [], ◌+◌, ◌%◌, ◌/◌, ◌*◌, ◌^◌, ◌<◌, ◌≤◌, length, pos, vec_len, vec_capacity};
-ghost use Rattle.wasm_codec.specs.Encoding.{IsShortest};
+ghost use Rattle.wasm_codec.specs.Encoding.{IsMinimal};
 ghost use Rattle.wasm_codec.specs.Leb128.{complemented, digits_of, unsigned_leb128, signed_leb128};
 ghost use Rattle.wasm_codec.specs.formats.Numbers.{EncodesU32, EncodesU64, EncodesS32, EncodesS64, EncodesIndex};
 
@@ -91,7 +91,7 @@ fn put_many<A: Allocator>(bytes: &mut Vec<u8, A>, turn: bool, top: u64, n: u64)
 pub fn put_u32<A: Allocator>(bytes: &mut Vec<u8, A>, value: u32)
     requires { vec_len bytes.old + 5 ≤ vec_capacity bytes.old }
     ensures items { bytes.new.items ≡ bytes.old.items ++ unsigned_leb128 value }
-    ensures shortest { IsShortest EncodesU32 unsigned_leb128 value }
+    ensures minimal { IsMinimal EncodesU32 unsigned_leb128 value }
     ensures len { vec_len bytes.new ≤ vec_len bytes.old + 5 }
     ensures capacity { vec_capacity bytes.new ≡ vec_capacity bytes.old }
 {
@@ -103,7 +103,7 @@ pub fn put_u32<A: Allocator>(bytes: &mut Vec<u8, A>, value: u32)
 pub fn put_u64<A: Allocator>(bytes: &mut Vec<u8, A>, value: u64)
     requires { vec_len bytes.old + 10 ≤ vec_capacity bytes.old }
     ensures items { bytes.new.items ≡ bytes.old.items ++ unsigned_leb128 value }
-    ensures shortest { IsShortest EncodesU64 unsigned_leb128 value }
+    ensures minimal { IsMinimal EncodesU64 unsigned_leb128 value }
     ensures len { vec_len bytes.new ≤ vec_len bytes.old + 10 }
     ensures capacity { vec_capacity bytes.new ≡ vec_capacity bytes.old }
 {
@@ -115,7 +115,7 @@ pub fn put_u64<A: Allocator>(bytes: &mut Vec<u8, A>, value: u64)
 pub fn put_i32<A: Allocator>(bytes: &mut Vec<u8, A>, value: i32)
     requires { vec_len bytes.old + 5 ≤ vec_capacity bytes.old }
     ensures items { bytes.new.items ≡ bytes.old.items ++ signed_leb128 value }
-    ensures shortest { IsShortest EncodesS32 signed_leb128 value }
+    ensures minimal { IsMinimal EncodesS32 signed_leb128 value }
     ensures len { vec_len bytes.new ≤ vec_len bytes.old + 5 }
     ensures capacity { vec_capacity bytes.new ≡ vec_capacity bytes.old }
 {
@@ -131,7 +131,7 @@ pub fn put_i32<A: Allocator>(bytes: &mut Vec<u8, A>, value: i32)
 pub fn put_i64<A: Allocator>(bytes: &mut Vec<u8, A>, value: i64)
     requires { vec_len bytes.old + 10 ≤ vec_capacity bytes.old }
     ensures items { bytes.new.items ≡ bytes.old.items ++ signed_leb128 value }
-    ensures shortest { IsShortest EncodesS64 signed_leb128 value }
+    ensures minimal { IsMinimal EncodesS64 signed_leb128 value }
     ensures len { vec_len bytes.new ≤ vec_len bytes.old + 10 }
     ensures capacity { vec_capacity bytes.new ≡ vec_capacity bytes.old }
 {
@@ -147,7 +147,7 @@ pub fn put_i64<A: Allocator>(bytes: &mut Vec<u8, A>, value: i64)
 pub fn put_index<A: Allocator>(bytes: &mut Vec<u8, A>, index: u32)
     requires { vec_len bytes.old + 5 ≤ vec_capacity bytes.old }
     ensures items { bytes.new.items ≡ bytes.old.items ++ signed_leb128 (pos index) }
-    ensures shortest { IsShortest EncodesIndex (λ index. signed_leb128 (pos index)) index }
+    ensures minimal { IsMinimal EncodesIndex (λ index. signed_leb128 (pos index)) index }
     ensures len { vec_len bytes.new ≤ vec_len bytes.old + 5 }
     ensures capacity { vec_capacity bytes.new ≡ vec_capacity bytes.old }
 {

@@ -49,16 +49,16 @@ impl<T: Drop> From<AllocFailed<T>> for Fault {
 /// # use wasm_encoder::{Cursor, Fault};
 /// let mut cursor = Cursor::new(b"\x7f\xc2\x80\x00");
 /// assert_eq!(rt; cursor.s32(), Ok(-1));
-/// assert!(rt; cursor.is_shortest());
+/// assert!(rt; cursor.is_minimal());
 /// assert_eq!(rt; cursor.u32(), Ok(66)); // padded
-/// assert!(rt; !cursor.is_shortest());
+/// assert!(rt; !cursor.is_minimal());
 /// assert!(rt; matches!(cursor.byte(), Err(Fault::Malformed(_))));
 /// ```
 #[derive(Drop)]
 pub struct Cursor<'a> {
     bytes: &'a [u8],
     position: usize,
-    shortest: bool,
+    minimal: bool,
     /// Number of bytes after these: those behind the body, if these are one.
     behind: usize,
     /// Number of bytes from the size of the body up to the end of the input, if these are one.
@@ -71,7 +71,7 @@ impl<'a> Model for Cursor<'a> {
 
     ghost Value = { Place };
 
-    ghost view = { λ c. place c.shortest (drop c.position c.bytes.now) };
+    ghost view = { λ c. place c.minimal (drop c.position c.bytes.now) };
 
     ghost invariant = { λ c. c.position ≤ length c.bytes.now };
 }
@@ -129,7 +129,7 @@ impl<'a> Cursor<'a> {
         Cursor {
             bytes,
             position: 0,
-            shortest: true,
+            minimal: true,
             behind: 0,
             body: None,
         }
@@ -144,17 +144,17 @@ impl<'a> Cursor<'a> {
     }
 
     /// Checks whether everything read since the start was minimally encoded.
-    pub fn is_shortest(&self) -> bool
-        ensures { result ≡ self.now.shortest }
+    pub fn is_minimal(&self) -> bool
+        ensures { result ≡ self.now.minimal }
     {
-        self.shortest
+        self.minimal
     }
 
     /// Records that a form was read that isn't minimal.
     pub fn note_long_form(&mut self)
         ensures { self.new ≡ place false self.old.left }
     {
-        self.shortest = false;
+        self.minimal = false;
     }
 
     /// Returns a second cursor at the same position, to come back to.
@@ -162,19 +162,27 @@ impl<'a> Cursor<'a> {
         ensures place { result ≡ self.now }
         ensures bytes { IsBytes self.now.left }
     {
-        Cursor::at(self.bytes, self.position, self.shortest).within(self.behind, self.body)
+        Cursor::at(self.bytes, self.position, self.minimal).within(self.behind, self.body)
+    }
+
+    /// Tells the proof that each item left is a byte. The call does nothing.
+    #[inline(always)]
+    pub fn are_bytes(&self)
+        ensures { IsBytes self.now.left }
+    {
+        let _place = self.fork();
     }
 
     /// Returns a cursor after the first `position` bytes.
-    pub(crate) fn at(bytes: &'a [u8], position: usize, shortest: bool) -> Cursor<'a>
+    pub(crate) fn at(bytes: &'a [u8], position: usize, minimal: bool) -> Cursor<'a>
         requires { position ≤ length bytes.now }
-        ensures place { result ≡ place shortest (drop position bytes.now) }
+        ensures place { result ≡ place minimal (drop position bytes.now) }
         ensures bytes { IsBytes (drop position bytes.now) }
     {
         Cursor {
             bytes,
             position,
-            shortest,
+            minimal,
             behind: 0,
             body: None,
         }
@@ -269,7 +277,7 @@ impl<'a> Cursor<'a> {
 
     /// Reads `count` bytes. Fails with `Malformed` if fewer are left: the bytes end in this part.
     pub fn take(&mut self, count: usize, construct: Construct) -> Result<&'a [u8], Fault>
-        ensures ok { IfOk result (λ taken. (taken.now ≡ take count self.old.left) × (self.new ≡ place self.old.shortest (drop count self.old.left))) }
+        ensures ok { IfOk result (λ taken. (taken.now ≡ take count self.old.left) × (self.new ≡ place self.old.minimal (drop count self.old.left))) }
         ensures enough { IfOk result (λ _. count ≤ length self.old.left) }
         ensures err { IfErr result (λ e. IsMalformed e × (length self.old.left < count)) }
         ensures item { NamesItem None result }
@@ -286,7 +294,7 @@ impl<'a> Cursor<'a> {
     /// Reads the `size` bytes after a size that begins with `start` bytes up to the end. Fails with `Malformed` if fewer
     /// are left.
     pub fn take_sized(&mut self, size: u32, start: usize) -> Result<&'a [u8], Fault>
-        ensures ok { IfOk result (λ taken. (taken.now ≡ take size self.old.left) × (self.new ≡ place self.old.shortest (drop size self.old.left))) }
+        ensures ok { IfOk result (λ taken. (taken.now ≡ take size self.old.left) × (self.new ≡ place self.old.minimal (drop size self.old.left))) }
         ensures enough { IfOk result (λ _. size ≤ length self.old.left) }
         ensures err { IfErr result (λ e. IsMalformed e × (length self.old.left < size)) }
         ensures item { NamesItem None result }
@@ -301,11 +309,11 @@ impl<'a> Cursor<'a> {
 
     /// Reads a size and returns a cursor over that many bytes, which it skips.
     ///
-    /// The new cursor starts with this cursor's record of minimal encodings; hand its record back by `set_shortest`.
+    /// The new cursor starts with this cursor's record of minimal encodings; hand its record back by `set_minimal`.
     /// Fails with `Malformed` if the size is malformed or exceeds the bytes left.
     pub fn body(&mut self) -> Result<Cursor<'a>, Fault>
         ensures reads { Reads body_at self.old self.new (map_ok (λ body. body.left) result) }
-        ensures tells { IfOk result (λ body. body ≡ place self.new.shortest body.left) }
+        ensures tells { IfOk result (λ body. body ≡ place self.new.minimal body.left) }
         ensures bytes { IfOk result (λ body. IsBytes body.left) }
         ensures counted { IfOk result (λ body. length body.left < 2 ^ 32) }
         ensures err { IfErr result IsMalformed }
@@ -314,21 +322,21 @@ impl<'a> Cursor<'a> {
         let start = self.to_end();
         let size = self.u32()?;
         let bytes = self.take_sized(size, start)?;
-        Ok(Cursor::at(bytes, 0, self.shortest).within(self.to_end(), Some(start)))
+        Ok(Cursor::at(bytes, 0, self.minimal).within(self.to_end(), Some(start)))
     }
 
     /// Sets whether everything read so far was minimally encoded: by the cursor of a body, once that body was read.
-    pub fn set_shortest(&mut self, shortest: bool)
-        ensures { self.new ≡ place shortest self.old.left }
+    pub fn set_minimal(&mut self, minimal: bool)
+        ensures { self.new ≡ place minimal self.old.left }
     {
-        self.shortest = shortest;
+        self.minimal = minimal;
     }
 
     /// Records whether what was just read was minimally encoded.
     fn keep(&mut self, kept: bool)
-        ensures { self.new ≡ place (self.old.shortest && kept) self.old.left }
+        ensures { self.new ≡ place (self.old.minimal && kept) self.old.left }
     {
-        self.shortest = self.shortest && kept;
+        self.minimal = self.minimal && kept;
     }
 
     /// Reads a number of one byte. Returns `None` if the next number has more bytes.
@@ -401,11 +409,11 @@ impl<'a> Cursor<'a> {
     #[inline(always)]
     pub fn short_body(&mut self) -> Option<Cursor<'a>>
         ensures reads { IfSome result (λ body. body_at self.old ≡ Some (body.left, self.new)) }
-        ensures tells { IfSome result (λ body. body ≡ place self.new.shortest body.left) }
+        ensures tells { IfSome result (λ body. body ≡ place self.new.minimal body.left) }
     {
         let start = self.to_end();
         let bytes = self.short_sized()?;
-        Some(Cursor::at(bytes, 0, self.shortest).within(self.to_end(), Some(start)))
+        Some(Cursor::at(bytes, 0, self.minimal).within(self.to_end(), Some(start)))
     }
 
     /// Reads a u64 of one byte. Returns `None` and doesn't move if the next number is longer or missing.
@@ -422,7 +430,7 @@ impl<'a> Cursor<'a> {
 
     /// Reads an s32 of one byte. Returns `None` and doesn't move if the next number is longer or missing.
     #[inline(always)]
-    fn shortest_s32(&mut self) -> Option<i32>
+    fn minimal_s32(&mut self) -> Option<i32>
         ensures reads { IfSome result (λ number. s32_at self.old ≡ Some (number, self.new)) }
         ensures stays { IsNone result → self.new ≡ self.old }
     {
@@ -441,7 +449,7 @@ impl<'a> Cursor<'a> {
     pub fn short_s32(&mut self) -> Option<i32>
         ensures { IfSome result (λ number. s32_at self.old ≡ Some (number, self.new)) }
     {
-        if let Some(number) = self.shortest_s32() {
+        if let Some(number) = self.minimal_s32() {
             return Some(number);
         }
         let first = self.next_byte()?;
@@ -619,7 +627,7 @@ impl<'a> Cursor<'a> {
         ensures reads { Reads s32_at self.old self.new result }
         ensures err { IfErr result IsMalformed }
     {
-        if let Some(number) = self.shortest_s32() {
+        if let Some(number) = self.minimal_s32() {
             return Ok(number);
         }
         self.long_s32()

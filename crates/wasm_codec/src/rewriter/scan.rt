@@ -1,7 +1,7 @@
 //! Scanning of items: it finds the end of an item and its minimal encoding without decoding it.
 ghost use Rattle.std.specs.Prelude.{◌≡◌, ◌-◌, ◌<◌, ◌≤◌, ◌^◌, length, take, true, Some, IfSome};
 ghost use Rattle.wasm_codec.specs.Scanning.{AreLow, IsWithin, KeepsDigits, Scans, ScansDigits, behind_byte, repeats};
-ghost use Rattle.wasm_codec.specs.declared.rewriter.scan.Scanned.TheVariants.{Shortest};
+ghost use Rattle.wasm_codec.specs.declared.rewriter.scan.Scanned.TheVariants.{Minimal};
 ghost use Rattle.wasm_codec.specs.formats.Combinators.{u32 as u32_format, u64 as u64_format, s32 as s32_format, s64 as s64_format};
 
 use crate::encode::leb128::complemented;
@@ -14,7 +14,7 @@ const HIGH_BITS: u64 = 0x8080_8080_8080_8080;
 #[derive(Clone, Copy)]
 pub enum Scanned {
     /// The item is minimally encoded and has this many bytes.
-    Shortest(usize),
+    Minimal(usize),
     /// The item ends with a padded number, which begins at offset `start`: `more` digits, and then a redundant last
     /// digit.
     Padded {
@@ -32,7 +32,7 @@ impl Scanned {
         ensures { result ≡ behind_byte self }
     {
         match self {
-            Scanned::Shortest(count) => Scanned::Shortest(1 + count),
+            Scanned::Minimal(count) => Scanned::Minimal(1 + count),
             Scanned::Padded {
                 signed,
                 start,
@@ -75,7 +75,7 @@ fn scan_digits(bytes: &[u8], signed: bool, most: usize, top: u8) -> Option<Scann
     }
     let mut before = bytes[0];
     if before < 128 {
-        return Some(Scanned::Shortest(1));
+        return Some(Scanned::Minimal(1));
     }
     for index in 1..most {
         if index >= bytes.len() {
@@ -98,7 +98,7 @@ fn scan_digits(bytes: &[u8], signed: bool, most: usize, top: u8) -> Option<Scann
             if index + 1 == most && complemented(signed && byte >= 64, byte) >= top {
                 return None;
             }
-            return Some(Scanned::Shortest(index + 1));
+            return Some(Scanned::Minimal(index + 1));
         }
         before = byte;
     }
@@ -144,10 +144,10 @@ pub fn scan_u32(bytes: &[u8]) -> Option<Scanned>
 #[inline(always)]
 #[tactic(auto, using(crate::proofs::ScannedNumbers::short_u32_scanned))]
 pub fn scan_short_u32(bytes: &[u8]) -> Option<usize>
-    ensures { IfSome result (λ count. Scans u32_format bytes.now (Some (Shortest count))) }
+    ensures { IfSome result (λ count. Scans u32_format bytes.now (Some (Minimal count))) }
 {
     match scan_digits(bytes, false, 2, 128)? {
-        Scanned::Shortest(count) => Some(count),
+        Scanned::Minimal(count) => Some(count),
         Scanned::Padded { .. } => None,
     }
 }

@@ -1,18 +1,14 @@
 //! Offsets of instructions in the body of a function, and in the body's minimal encoding.
-ghost use Rattle.std.specs.Prelude.{ℕ, IfOk, IfSome};
-ghost use Rattle.wasm_types.specs.declared.types.value.ValType.{ValType};
-ghost use Rattle.wasm_code.specs.formats.CodeBodies.{local_group};
+ghost use Rattle.std.specs.Prelude.{IfOk, IfSome};
 ghost use Rattle.wasm_custom_sections.specs.MovedOffsets.{Each, IsFront, IsFrontUpTo, MovesHint};
 
 use crate::branch_hints::BranchHint;
 use std::alloc::{AllocError, Global};
+use wasm_code::code::normaliser::rewrite_locals;
 use wasm_codec::reader::ReadError;
-use wasm_codec::reader::cursor::Fault;
 use wasm_codec::rewriter::Rewriter;
 use wasm_instructions::normaliser::normalise_instructions;
 use wasm_lists::list::Items;
-use wasm_lists::rewriting::{Rewritable, rewrite_list};
-use wasm_types::types::take_val_type;
 
 /// The first bytes of a function's body: its locals, and some of its instructions.
 #[derive(Clone, Copy)]
@@ -62,7 +58,7 @@ fn locals_of(alloc: Global, body: &[u8]) -> Result<Option<Front>, AllocError>
     let mut copy = Vec::from_slice(alloc, body)?;
     let mut rewriter = Rewriter::new(copy.as_mut_slice());
     rewriter.are_bytes();
-    match rewrite_list::<LocalGroup>(&mut rewriter) {
+    match rewrite_locals(&mut rewriter) {
         Ok(()) => Ok(Some(Front {
             len: body.len() - rewriter.len(),
             minimal: rewriter.written_len(),
@@ -94,24 +90,5 @@ fn front_up_to(
         })),
         Err(ReadError::Refused { .. }) => Ok(None),
         Err(ReadError::Memory) => Err(AllocError),
-    }
-}
-
-/// A group of locals: their number and their type.
-struct LocalGroup;
-
-impl Rewritable for LocalGroup {
-    ghost Value = { ℕ × ValType };
-
-    ghost format = { local_group };
-
-    #[inline(always)]
-    fn is_lawful() {}
-
-    #[tactic(auto, using(std::proofs::Common::append_assoc))]
-    fn rewrite(rewriter: &mut Rewriter) -> Result<(), Fault> {
-        rewriter.u32()?;
-        take_val_type(rewriter)?;
-        Ok(())
     }
 }

@@ -1,7 +1,7 @@
 //! Writers of decoded subsections of a name section (Core 3.0, Name Section).
 ghost use Rattle.std.specs.Prelude.{◌≡◌, ◌++◌, ◌∷◌, ◌<◌, OnOk, IfErr, length, take};
 ghost use Rattle.std.specs.List.{All};
-ghost use Rattle.wasm_codec.specs.Encoding.{byte_list_bytes, IsCountRefusal, IsCount, IsRefusal, IsShortest, OnlyTooLong};
+ghost use Rattle.wasm_codec.specs.Encoding.{byte_list_bytes, IsCountRefusal, IsCount, IsRefusal, IsMinimal, OnlyTooLong};
 ghost use Rattle.wasm_codec.specs.Lists.{items_bytes};
 ghost use Rattle.wasm_codec.specs.formats.Grammar.{IsBytes};
 ghost use Rattle.wasm_custom_sections.specs.WrittenNames.{AppendsSubsection, CountedItems, CountedNames, CountedSubsection, indirect_bytes, IsWrittenSubsection, naming_bytes, subsection_bytes};
@@ -69,7 +69,7 @@ fn append_names<A: Allocator>(
 ) -> Result<(), EncodeError>
     ensures ok { OnOk result (sink.new.items ≡ sink.old.items ++ id ∷ byte_list_bytes (items_bytes naming_bytes names.now)) }
     ensures can { OnOk result (CountedNames names.now) }
-    ensures written { OnOk result (All (λ n. IsShortest naming.Encodes naming.bytes (naming_parts n)) names.now) }
+    ensures written { OnOk result (All (λ n. IsMinimal naming.Encodes naming.bytes (naming_parts n)) names.now) }
     ensures refused { IfErr result (IsRefusal CountedNames OnlyTooLong names.now) }
     ensures kept { take (length sink.old.items) sink.new.items ≡ sink.old.items }
 {
@@ -85,7 +85,7 @@ fn append_items<A: Allocator>(
 ) -> Result<(), EncodeError>
     ensures ok { OnOk result (sink.new.items ≡ sink.old.items ++ id ∷ byte_list_bytes (items_bytes indirect_bytes items.now)) }
     ensures can { OnOk result (CountedItems items.now) }
-    ensures written { OnOk result (All (λ i. IsShortest indirect_naming.Encodes indirect_naming.bytes (indirect_parts i)) items.now) }
+    ensures written { OnOk result (All (λ i. IsMinimal indirect_naming.Encodes indirect_naming.bytes (indirect_parts i)) items.now) }
     ensures refused { IfErr result (IsRefusal CountedItems OnlyTooLong items.now) }
     ensures kept { take (length sink.old.items) sink.new.items ≡ sink.old.items }
 {

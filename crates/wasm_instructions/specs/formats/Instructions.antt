@@ -107,5 +107,5 @@ abbrev pub instructions_bytes : List Instruction → List ℕ
 instructions_bytes = all_bytes instruction
 
 -- The bytes encode these instructions, each of them minimally.
-abbrev pub ShortestInstructions : Grammar (List Instruction)
-ShortestInstructions = AllOf (minimal_only instruction)
+abbrev pub MinimalInstructions : Grammar (List Instruction)
+MinimalInstructions = AllOf (minimal_only instruction)

@@ -5,7 +5,7 @@ ghost use Rattle.wasm_instructions.specs.Operands.{BlockTypeFits, CatchFits, Han
 ghost use Rattle.wasm_instructions.specs.OperandParts.{MemArgInRange};
 ghost use Rattle.wasm_instructions.specs.formats.Operands.{block_type, castop, catch_clause, handle_clause, lanes as lanes_format, mem_arg, ordering as ordering_format, vector};
 ghost use Rattle.wasm_codec.specs.declared.encode.EncodeError.TheVariants.{Alignment};
-ghost use Rattle.wasm_codec.specs.Encoding.{IsShortest};
+ghost use Rattle.wasm_codec.specs.Encoding.{IsMinimal};
 ghost use Rattle.wasm_instructions.specs.Instructions.{NumbersInRange};
 ghost use Rattle.wasm_instructions.specs.declared.table.call.Operands.TheVariants as operands;
 ghost use Rattle.wasm_instructions.specs.MemArgs.{HasAlignment, misaligned_at_once};
@@ -208,7 +208,7 @@ pub fn put_lanes<A: Allocator>(bytes: &mut Vec<u8, A>, lanes: [Lane; 16])
 impl Encode for BlockType {
     ghost bytes = { block_type.bytes };
 
-    ghost IsWritten = { IsShortest block_type.Encodes block_type.bytes };
+    ghost IsWritten = { IsMinimal block_type.Encodes block_type.bytes };
 
     fn encode<A: Allocator>(&self, sink: &mut Vec<u8, A>) -> Result<(), EncodeError> {
         sink.reserve(7)?;
@@ -223,7 +223,7 @@ impl Encode for BlockType {
 impl Encode for MemArg {
     ghost bytes = { mem_arg.bytes };
 
-    ghost IsWritten = { IsShortest mem_arg.Encodes mem_arg.bytes };
+    ghost IsWritten = { IsMinimal mem_arg.Encodes mem_arg.bytes };
 
     ghost CanEncode = { HasAlignment };
 
@@ -246,7 +246,7 @@ impl Encode for MemArg {
 impl Encode for Catch {
     ghost bytes = { catch_clause.bytes };
 
-    ghost IsWritten = { IsShortest catch_clause.Encodes catch_clause.bytes };
+    ghost IsWritten = { IsMinimal catch_clause.Encodes catch_clause.bytes };
 
     fn encode<A: Allocator>(&self, sink: &mut Vec<u8, A>) -> Result<(), EncodeError> {
         sink.reserve(11)?;
@@ -260,7 +260,7 @@ impl Encode for Catch {
 impl Encode for Handle {
     ghost bytes = { handle_clause.bytes };
 
-    ghost IsWritten = { IsShortest handle_clause.Encodes handle_clause.bytes };
+    ghost IsWritten = { IsMinimal handle_clause.Encodes handle_clause.bytes };
 
     fn encode<A: Allocator>(&self, sink: &mut Vec<u8, A>) -> Result<(), EncodeError> {
         sink.reserve(11)?;
@@ -273,7 +273,7 @@ impl Encode for Handle {
 impl Encode for Ordering {
     ghost bytes = { ordering_format.bytes };
 
-    ghost IsWritten = { IsShortest ordering_format.Encodes ordering_format.bytes };
+    ghost IsWritten = { IsMinimal ordering_format.Encodes ordering_format.bytes };
 
     fn encode<A: Allocator>(&self, sink: &mut Vec<u8, A>) -> Result<(), EncodeError> {
         sink.reserve(1)?;

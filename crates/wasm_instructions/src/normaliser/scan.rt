@@ -2,7 +2,7 @@
 //! Instructions).
 ghost use Rattle.std.specs.Prelude.{Some, IfSome};
 ghost use Rattle.wasm_codec.specs.Scanning.{Scans};
-ghost use Rattle.wasm_codec.specs.declared.rewriter.scan.Scanned.TheVariants.{Shortest};
+ghost use Rattle.wasm_codec.specs.declared.rewriter.scan.Scanned.TheVariants.{Minimal};
 ghost use Rattle.wasm_codec.specs.formats.Combinators.{little_endian};
 ghost use Rattle.wasm_instructions.specs.formats.Instructions.{operands_format, instruction};
 ghost use Rattle.wasm_instructions.specs.formats.Operands.{block_type, mem_arg};
@@ -13,7 +13,6 @@ mod prefixed;
 
 use crate::normaliser::scan::opcodes::{SCANNED, scanned_kind};
 use crate::table::Kind;
-pub use parts::scan_val_type;
 pub(crate) use prefixed::scan_rare_call;
 use wasm_codec::rewriter::{Scanned, scan_s32, scan_s64, scan_short_u32, scan_u32, scan_u64};
 
@@ -34,7 +33,7 @@ pub(crate) fn scan_call(bytes: &[u8]) -> Option<Scanned>
     let operands = &bytes[1..];
     let scanned = match scanned_kind(&SCANNED, bytes[0])? {
         // The most frequent kinds have branches of their own, so that the compiler adds their lengths beforehand.
-        Kind::None => return Some(Scanned::Shortest(1)),
+        Kind::None => return Some(Scanned::Minimal(1)),
         Kind::Index => return Some(scan_u32(operands)?.behind_byte()),
         Kind::Mem => return Some(scan_operands(Kind::Mem, operands)?.behind_byte()),
         kind => scan_operands(kind, operands)?,
@@ -46,7 +45,7 @@ pub(crate) fn scan_call(bytes: &[u8]) -> Option<Scanned>
 /// with an index of one or two digits.
 #[inline(always)]
 pub(crate) fn scan_frequent_call(bytes: &[u8]) -> Option<usize>
-    ensures { IfSome result (λ count. Scans instruction bytes.now (Some (Shortest count))) }
+    ensures { IfSome result (λ count. Scans instruction bytes.now (Some (Minimal count))) }
 {
     if bytes.len() == 0 {
         return None;
@@ -82,7 +81,7 @@ fn scan_raw(bytes: &[u8], count: usize) -> Option<Scanned>
     if bytes.len() < count {
         return None;
     }
-    Some(Scanned::Shortest(count))
+    Some(Scanned::Minimal(count))
 }
 
 /// Scans a block type. Returns `None` unless it is empty or a number type.
@@ -94,11 +93,11 @@ fn scan_block_type(bytes: &[u8]) -> Option<Scanned>
         return None;
     }
     match bytes[0] {
-        0x40 => Some(Scanned::Shortest(1)),
-        0x7c => Some(Scanned::Shortest(1)),
-        0x7d => Some(Scanned::Shortest(1)),
-        0x7e => Some(Scanned::Shortest(1)),
-        0x7f => Some(Scanned::Shortest(1)),
+        0x40 => Some(Scanned::Minimal(1)),
+        0x7c => Some(Scanned::Minimal(1)),
+        0x7d => Some(Scanned::Minimal(1)),
+        0x7e => Some(Scanned::Minimal(1)),
+        0x7f => Some(Scanned::Minimal(1)),
         _ => None,
     }
 }

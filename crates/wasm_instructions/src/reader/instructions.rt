@@ -2,7 +2,7 @@
 ghost use Rattle.std.specs.Prelude.{IfOk, refl, ◌<◌, true};
 ghost use Rattle.wasm_codec.specs.Places.{Reads};
 ghost use Rattle.wasm_codec.specs.Outcomes.{EncodesSome};
-ghost use Rattle.wasm_instructions.specs.formats.Instructions.{Instruction, Instructions, ShortestInstructions, instruction};
+ghost use Rattle.wasm_instructions.specs.formats.Instructions.{Instruction, Instructions, MinimalInstructions, instruction};
 ghost use Rattle.wasm_instructions.specs.Instructions.{IsCounted};
 ghost use Rattle.wasm_codec.specs.Decoding.{Decodes, DecodesMinimal, Checks};
 ghost use Rattle.wasm_instructions.specs.PrefixFree.{InstructionsArePrefixFree};
@@ -60,7 +60,7 @@ pub fn read_instructions(alloc: Global, bytes: &[u8]) -> Result<Vec<Call>, ReadE
 /// assert_eq!(rt; padded.err(), Some(ReadError::Refused { at: 1 }));
 /// ```
 pub fn read_instructions_strict(alloc: Global, bytes: &[u8]) -> Result<Vec<Call>, ReadError>
-    ensures decodes { DecodesMinimal (λ calls. calls.items) (to_end instruction) ShortestInstructions (EncodesSome ShortestInstructions) bytes.now result }
+    ensures decodes { DecodesMinimal (λ calls. calls.items) (to_end instruction) MinimalInstructions (EncodesSome MinimalInstructions) bytes.now result }
 {
     without_reason(read_calls_to_end::<true>(alloc, bytes))
 }
@@ -146,7 +146,7 @@ impl<'a> Readable<'a> for Call {
 /// assert_eq!(rt; padded.err(), Some(ReadError::Refused { at: 1 }));
 /// ```
 pub fn check_instructions(alloc: Global, bytes: &[u8]) -> Result<(), ReadError>
-    ensures checks { Checks (to_end instruction) ShortestInstructions (EncodesSome ShortestInstructions) bytes.now result }
+    ensures checks { Checks (to_end instruction) MinimalInstructions (EncodesSome MinimalInstructions) bytes.now result }
 {
     without_reason(check_items_to_end::<Call>(alloc, bytes))
 }

@@ -93,7 +93,7 @@ pub fn read_next_frequent_call<const STRICT: bool>(cursor: &mut Cursor<'_>) -> O
 {
     let start = cursor.fork();
     if let Some(call) = read_frequent_call(cursor) {
-        if !STRICT || cursor.is_shortest() {
+        if !STRICT || cursor.is_minimal() {
             return Some(call);
         }
     }

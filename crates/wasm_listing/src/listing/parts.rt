@@ -53,7 +53,7 @@ pub struct Longer {
 pub fn longer_number(bytes: &[u8]) -> Option<Longer> {
     let mut cursor = Cursor::new(bytes);
     match cursor.u32() {
-        Ok(number) if !cursor.is_shortest() => Some(Longer {
+        Ok(number) if !cursor.is_minimal() => Some(Longer {
             bytes: bytes.len().saturating_sub(cursor.len()),
             minimal: u32_len(number),
         }),
@@ -123,13 +123,13 @@ impl<'a> PartReader<'a> {
 
     /// Begins a part of several numbers, names and bytes. Returns the number of bytes of the body before it.
     pub fn begin(&mut self) -> usize {
-        self.cursor.set_shortest(true);
+        self.cursor.set_minimal(true);
         self.position()
     }
 
     /// Returns the part that began at `start` and ends here. Its minimal encoding has `minimal` bytes.
     pub fn part_from(&self, number: u32, start: usize, minimal: usize) -> Part<'a> {
-        let is_minimal = self.cursor.is_shortest();
+        let is_minimal = self.cursor.is_minimal();
         self.part(number, start, if is_minimal { None } else { Some(minimal) })
     }
 
@@ -172,10 +172,10 @@ impl<'a> PartReader<'a> {
     /// Reads the item with this number.
     pub fn item<T: Readable<'a>>(&mut self, number: u32) -> Result<(Part<'a>, T), Stop> {
         let start = self.position();
-        self.cursor.set_shortest(true);
+        self.cursor.set_minimal(true);
         let item = T::read(self.alloc, &mut self.cursor)?;
         let part = self.part(number, start, None);
-        if self.cursor.is_shortest() {
+        if self.cursor.is_minimal() {
             return Ok((part, item));
         }
         let minimal = Some(minimal_len::<T>(self.alloc, part.bytes)?);
@@ -185,10 +185,10 @@ impl<'a> PartReader<'a> {
     /// Reads the group of locals with this number: how many locals, and their type.
     pub fn local_group(&mut self, number: u32) -> Result<(Part<'a>, (u32, ValType)), Stop> {
         let start = self.position();
-        self.cursor.set_shortest(true);
+        self.cursor.set_minimal(true);
         let (count, ty) = read_local_group(&mut self.cursor)?;
         let part = self.part(number, start, None);
-        if self.cursor.is_shortest() {
+        if self.cursor.is_minimal() {
             return Ok((part, (count, ty)));
         }
         let minimal = Some(u32_len(count).saturating_add(type_len(self.alloc, ty)?));

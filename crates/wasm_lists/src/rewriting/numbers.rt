@@ -1,7 +1,7 @@
 //! Runs of minimally encoded numbers, which stay as they are.
 ghost use Rattle.std.specs.Prelude.{◌≤◌, IfSome, Some};
 ghost use Rattle.wasm_codec.specs.Scanning.{BeginsItems, Scans};
-ghost use Rattle.wasm_codec.specs.declared.rewriter.scan.Scanned.TheVariants.{Shortest};
+ghost use Rattle.wasm_codec.specs.declared.rewriter.scan.Scanned.TheVariants.{Minimal};
 ghost use Rattle.wasm_codec.specs.formats.Combinators.{u32 as u32_format};
 
 use wasm_codec::rewriter::{Scanned, are_bytes, begins_low, scan_u32};
@@ -43,17 +43,17 @@ pub(crate) fn number_run(bytes: &[u8], most: u32) -> Run
 /// Returns the length of the number that the bytes begin with. Returns `None` unless it is minimally encoded.
 #[inline(always)]
 fn number_len(bytes: &[u8]) -> Option<usize>
-    ensures { IfSome result (λ count. Scans u32_format bytes.now (Some (Shortest count))) }
+    ensures { IfSome result (λ count. Scans u32_format bytes.now (Some (Minimal count))) }
 {
     are_bytes(bytes);
     if bytes.len() < 5 {
-        let Some(Scanned::Shortest(count)) = scan_u32(bytes) else {
+        let Some(Scanned::Minimal(count)) = scan_u32(bytes) else {
             return None;
         };
         return Some(count);
     }
     // With five bytes ahead, the compiler drops the length checks.
-    let Some(Scanned::Shortest(count)) = scan_u32(&bytes[..5]) else {
+    let Some(Scanned::Minimal(count)) = scan_u32(&bytes[..5]) else {
         return None;
     };
     Some(count)

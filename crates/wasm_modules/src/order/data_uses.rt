@@ -167,7 +167,7 @@ fn skip_scanned_call(cursor: &mut Cursor<'_>) -> bool
     if ahead[0] >= FIRST_PREFIX {
         return false;
     }
-    let Some(Scanned::Shortest(count)) = <Call as Joinable>::scan(ahead) else {
+    let Some(Scanned::Minimal(count)) = <Call as Joinable>::scan(ahead) else {
         return false;
     };
     let Ok(_call) = cursor.take(count, Construct::Opcode) else {

@@ -50,8 +50,7 @@ fn find_in_sections(alloc: Global, sections: &[u8]) -> Result<Option<ModuleError
     let mut cursor = Cursor::new(sections);
     let mut index = 0;
     while cursor.len() > 0 {
-        // `fork` shows the proof that all remaining items are bytes.
-        let _start = cursor.fork();
+        cursor.are_bytes();
         let Ok(section) = read_section(&mut cursor) else {
             // Malformed bytes encode no sections.
             return Ok(None);

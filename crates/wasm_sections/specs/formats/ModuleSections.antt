@@ -8,7 +8,8 @@ use Rattle.wasm_codec.specs.formats.Combinators.{Format, made, any_of, no_other,
 use Rattle.wasm_sections.specs.formats.ModuleSectionParts.{ModuleSectionParts, section_id, custom, types, imports, functions, tables, memories, globals, exports, start, elements, code, data_segments, data_count, tags, custom_part, type_entries_part, imports_part, function_indexes_part, tables_part, memories_part, globals_part, exports_part, start_part, elements_part, code_part, data_segments_part, data_count_part, tags_part}
 use Rattle.wasm_types.specs.formats.Types.{recursive_type}
 use Rattle.wasm_code.specs.formats.CodeBodies.{code_body}
-use Rattle.wasm_code.specs.formats.Modules.{module_of}
+use Rattle.wasm_code.specs.formats.Modules.{module_of, raw_section}
+use Rattle.wasm_code.specs.formats.Sections.{SectionParts}
 use Rattle.wasm_sections.specs.formats.Elements.{element_segment}
 use Rattle.wasm_sections.specs.formats.Entries.{import_entry, table_entry, global_entry, export_entry}
 use Rattle.wasm_externals.specs.formats.Externals.{memory_type, tag_type}
@@ -64,12 +65,16 @@ abbrev pub whole_module : Format (List ModuleSectionParts)
 whole_module = module_of module_section
 
 -- The bytes encode these sections, each of them minimally.
-abbrev pub ShortestWholeModule : Grammar (List ModuleSectionParts)
-ShortestWholeModule = (module_of (minimal_only module_section)).Encodes
+abbrev pub MinimalWholeModule : Grammar (List ModuleSectionParts)
+MinimalWholeModule = (module_of (minimal_only module_section)).Encodes
 
 -- If the bytes are a minimally encoded module, so is the result.
 abbrev pub KeepsMinimal : List ℕ → List ℕ → Type 0
-KeepsMinimal bytes result = EncodesSome ShortestWholeModule bytes → EncodesSome ShortestWholeModule result
+KeepsMinimal bytes result = EncodesSome MinimalWholeModule bytes → EncodesSome MinimalWholeModule result
+
+-- The section is minimally encoded, with its content.
+abbrev pub IsMinimalSection : SectionParts → Type 0
+IsMinimalSection section = EncodesSome (minimal_only module_section).Encodes (raw_section.bytes section)
 
 -- ---- by kinds
 

@@ -66,7 +66,7 @@ pub(crate) fn read_sized_number(cursor: &mut Cursor<'_>) -> Result<u32, Fault>
     if body.len() > 0 {
         return Err(Fault::Malformed(body.trailing()));
     }
-    cursor.set_shortest(body.is_shortest());
+    cursor.set_minimal(body.is_minimal());
     Ok(number)
 }
 
@@ -77,7 +77,7 @@ pub(crate) fn read_sized_custom<'a>(cursor: &mut Cursor<'a>) -> Result<CustomSec
     let mut body = cursor.body()?;
     let name = read_name(&mut body)?;
     let bytes = body.take(body.len(), Construct::Body)?;
-    cursor.set_shortest(body.is_shortest());
+    cursor.set_minimal(body.is_minimal());
     Ok(CustomSection { name, bytes })
 }
 
@@ -146,7 +146,7 @@ fn read_short_custom<'a>(cursor: &mut Cursor<'a>) -> Option<ModuleSection<'a>>
     let name = read_short_name(&mut body)?;
     match body.take(body.len(), Construct::Body) {
         Ok(bytes) => {
-            cursor.set_shortest(body.is_shortest());
+            cursor.set_minimal(body.is_minimal());
             Some(ModuleSection::Custom(CustomSection { name, bytes }))
         }
         Err(_) => None,

@@ -199,9 +199,9 @@ abbrev pub IsTypeBodyPrefix : List ℕ → Type 0
 IsTypeBodyPrefix = IsListPrefix recursive_type.Encodes
 
 -- The bytes encode these type entries, with the count and each entry minimally encoded.
-abbrev pub ShortestTypeBody : Grammar (List TypeEntry)
-ShortestTypeBody = ListMinimalIf true recursive_type
+abbrev pub MinimalTypeBody : Grammar (List TypeEntry)
+MinimalTypeBody = ListMinimalIf true recursive_type
 
 -- The prefix is empty, or it is a count and at most as many type entries, all minimally encoded.
-abbrev pub IsShortestTypeBodyPrefix : List ℕ → Type 0
-IsShortestTypeBodyPrefix = IsListPrefixMinimalIf true recursive_type
+abbrev pub IsMinimalTypeBodyPrefix : List ℕ → Type 0
+IsMinimalTypeBodyPrefix = IsListPrefixMinimalIf true recursive_type

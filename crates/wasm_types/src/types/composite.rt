@@ -1,7 +1,7 @@
 //! Composite types: types of fields, structures, arrays, functions and continuations (Core 3.0, Composite Types).
 ghost use Rattle.std.specs.Iterator.{Drains, IsFinite};
 ghost use Rattle.std.specs.Prelude.{◌≡◌, ◌++◌, ◌+◌, ◌≤◌, IfErr, IfOk, OnOk, length, take, vec_len, vec_capacity};
-ghost use Rattle.wasm_codec.specs.Encoding.{IsRefusal, IsShortest, OnlyTooLong};
+ghost use Rattle.wasm_codec.specs.Encoding.{IsRefusal, IsMinimal, OnlyTooLong};
 ghost use Rattle.wasm_codec.specs.Inputs.{Takes};
 ghost use Rattle.wasm_codec.specs.Places.{Reads};
 ghost use Rattle.wasm_codec.specs.Rewriter.{Rewrites};
@@ -333,7 +333,7 @@ fn put_field_type<A: Allocator>(bytes: &mut Vec<u8, A>, field: FieldType)
 impl Encode for FieldType {
     ghost bytes = { field_type.bytes };
 
-    ghost IsWritten = { IsShortest field_type.Encodes field_type.bytes };
+    ghost IsWritten = { IsMinimal field_type.Encodes field_type.bytes };
 
     fn encode<A: Allocator>(&self, sink: &mut Vec<u8, A>) -> Result<(), EncodeError> {
         sink.reserve(8)?;
@@ -347,7 +347,7 @@ impl Encode for FieldType {
 fn append_func<A: Allocator>(ty: &FuncType, sink: &mut Vec<u8, A>) -> Result<(), EncodeError>
     ensures ok { OnOk result (sink.new.items ≡ sink.old.items ++ inner_type.bytes (inner.Func ty.now)) }
     ensures can { OnOk result (CountedFunc ty.now) }
-    ensures written { OnOk result (IsShortest inner_type.Encodes inner_type.bytes (inner.Func ty.now)) }
+    ensures written { OnOk result (IsMinimal inner_type.Encodes inner_type.bytes (inner.Func ty.now)) }
     ensures refused { IfErr result (IsRefusal CountedFunc OnlyTooLong ty.now) }
     ensures kept { take (length sink.old.items) sink.new.items ≡ sink.old.items }
 {
@@ -361,7 +361,7 @@ fn append_func<A: Allocator>(ty: &FuncType, sink: &mut Vec<u8, A>) -> Result<(),
 impl Encode for FuncType {
     ghost bytes = { λ ty. inner_type.bytes (inner.Func ty) };
 
-    ghost IsWritten = { λ ty. IsShortest inner_type.Encodes inner_type.bytes (inner.Func ty) };
+    ghost IsWritten = { λ ty. IsMinimal inner_type.Encodes inner_type.bytes (inner.Func ty) };
 
     ghost CanEncode = { CountedFunc };
 
@@ -381,7 +381,7 @@ impl Encode for FuncType {
 impl Encode for StructType {
     ghost bytes = { λ ty. inner_type.bytes (inner.Struct ty) };
 
-    ghost IsWritten = { λ ty. IsShortest inner_type.Encodes inner_type.bytes (inner.Struct ty) };
+    ghost IsWritten = { λ ty. IsMinimal inner_type.Encodes inner_type.bytes (inner.Struct ty) };
 
     ghost CanEncode = { CountedStruct };
 
@@ -397,7 +397,7 @@ impl Encode for StructType {
 impl Encode for ArrayType {
     ghost bytes = { λ ty. inner_type.bytes (inner.Array ty) };
 
-    ghost IsWritten = { λ ty. IsShortest inner_type.Encodes inner_type.bytes (inner.Array ty) };
+    ghost IsWritten = { λ ty. IsMinimal inner_type.Encodes inner_type.bytes (inner.Array ty) };
 
     fn encode<A: Allocator>(&self, sink: &mut Vec<u8, A>) -> Result<(), EncodeError> {
         sink.reserve(9)?;
@@ -412,7 +412,7 @@ impl Encode for ArrayType {
 impl Encode for ContType {
     ghost bytes = { λ ty. inner_type.bytes (inner.Cont ty) };
 
-    ghost IsWritten = { λ ty. IsShortest inner_type.Encodes inner_type.bytes (inner.Cont ty) };
+    ghost IsWritten = { λ ty. IsMinimal inner_type.Encodes inner_type.bytes (inner.Cont ty) };
 
     fn encode<A: Allocator>(&self, sink: &mut Vec<u8, A>) -> Result<(), EncodeError> {
         sink.reserve(6)?;
@@ -428,7 +428,7 @@ impl Encode for ContType {
 impl Encode for CompositeInnerType {
     ghost bytes = { inner_type.bytes };
 
-    ghost IsWritten = { IsShortest inner_type.Encodes inner_type.bytes };
+    ghost IsWritten = { IsMinimal inner_type.Encodes inner_type.bytes };
 
     ghost CanEncode = { CountedInner };
 
@@ -452,7 +452,7 @@ fn append_composite<A: Allocator>(
 ) -> Result<(), EncodeError>
     ensures ok { OnOk result (sink.new.items ≡ sink.old.items ++ composite_type.bytes ty.now) }
     ensures can { OnOk result (CountedComposite ty.now) }
-    ensures written { OnOk result (IsShortest composite_type.Encodes composite_type.bytes ty.now) }
+    ensures written { OnOk result (IsMinimal composite_type.Encodes composite_type.bytes ty.now) }
     ensures refused { IfErr result (IsRefusal CountedComposite OnlyTooLong ty.now) }
     ensures kept { take (length sink.old.items) sink.new.items ≡ sink.old.items }
 {
@@ -478,7 +478,7 @@ fn append_composite<A: Allocator>(
 impl Encode for CompositeType {
     ghost bytes = { composite_type.bytes };
 
-    ghost IsWritten = { IsShortest composite_type.Encodes composite_type.bytes };
+    ghost IsWritten = { IsMinimal composite_type.Encodes composite_type.bytes };
 
     ghost CanEncode = { CountedComposite };
 

@@ -5,12 +5,12 @@
 ghost use Rattle.std.specs.Prelude.{◌≡◌, ◌≤◌, ◌∷◌, ℕ, Bool, EachIndex, IfOk, IfSome, IsTrue, List, Some, slice_index, true};
 ghost use Rattle.wasm_codec.specs.Places.{place};
 ghost use Rattle.wasm_codec.specs.Scanning.{Scans};
-ghost use Rattle.wasm_codec.specs.declared.rewriter.scan.Scanned.TheVariants.{Shortest};
+ghost use Rattle.wasm_codec.specs.declared.rewriter.scan.Scanned.TheVariants.{Minimal};
 ghost use Rattle.wasm_types.specs.formats.Types.{recursive_type, result_type, sub_type, val_type};
 
 use crate::types::composite::{CompositeInnerType, CompositeType, FuncType};
 use crate::types::recursive::SubType;
-use crate::types::value::ValType;
+use crate::types::value::{ValType, is_whole_type};
 use std::alloc::{AllocError, Global};
 use wasm_codec::reader::cursor::Cursor;
 use wasm_codec::rewriter::Scanned;
@@ -59,7 +59,7 @@ fn are_number_types(bytes: &[u8]) -> bool
 #[tactic(auto, unfolding(crate::specs::formats::Types::val_type, wasm_codec::specs::Places::byte_at))]
 fn number_type(byte: u8) -> ValType
     requires { (0x7b ≤ byte) × (byte ≤ 0x7f) }
-    ensures { (shortest : Bool) → (more : List ℕ) → val_type.at (place shortest (byte ∷ more)) ≡ Some (result, place shortest more) }
+    ensures { (minimal : Bool) → (more : List ℕ) → val_type.at (place minimal (byte ∷ more)) ≡ Some (result, place minimal more) }
 {
     match byte {
         0x7f => ValType::I32,
@@ -106,14 +106,14 @@ pub(crate) fn scan_function_type(bytes: &[u8]) -> Option<Scanned>
     }
     let params = scan_result_type(&bytes[1..])?;
     let results = scan_result_type(&bytes[1 + params..])?;
-    Some(Scanned::Shortest(1 + params + results))
+    Some(Scanned::Minimal(1 + params + results))
 }
 
 /// Returns the length of the list of value types that the bytes begin with, or `None` unless its count and types have
 /// one byte each.
 #[inline(always)]
 fn scan_result_type(bytes: &[u8]) -> Option<usize>
-    ensures { IfSome result (λ count. Scans result_type bytes.now (Some (Shortest count))) }
+    ensures { IfSome result (λ count. Scans result_type bytes.now (Some (Minimal count))) }
 {
     if bytes.len() == 0 {
         return None;
@@ -131,19 +131,4 @@ fn scan_result_type(bytes: &[u8]) -> Option<usize>
         }
     }
     Some(1 + count)
-}
-
-/// Checks whether the byte alone is a minimally encoded value type: a number or vector type, or a nullable reference to
-/// an abstract heap type.
-#[inline(always)]
-pub fn is_whole_type(byte: u8) -> bool
-    ensures { result ≡ true → (more : List ℕ) → Scans val_type (byte ∷ more) (Some (Shortest 1)) }
-{
-    if byte < 0x68 {
-        return false;
-    }
-    if byte >= 0x80 {
-        return false;
-    }
-    byte < 0x76 || byte >= 0x7b
 }

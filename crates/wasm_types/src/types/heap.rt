@@ -1,8 +1,10 @@
 //! Heap types and reference types (Core 3.0, Heap Types to Reference Types).
-ghost use Rattle.std.specs.Prelude.{[], ◌≡◌, ◌∷◌, ◌++◌, ◌+◌, ◌≤◌, vec_len, vec_capacity};
-ghost use Rattle.wasm_codec.specs.Encoding.{IsShortest};
+ghost use Rattle.std.specs.Prelude.{[], ◌≡◌, ◌∷◌, ◌++◌, ◌+◌, ◌≤◌, Some, IfSome, vec_len, vec_capacity};
+ghost use Rattle.wasm_codec.specs.Encoding.{IsMinimal};
 ghost use Rattle.wasm_codec.specs.Inputs.{Takes};
-ghost use Rattle.wasm_codec.specs.formats.Combinators.{flagged};
+ghost use Rattle.wasm_codec.specs.Scanning.{Scans};
+ghost use Rattle.wasm_codec.specs.declared.rewriter.scan.Scanned.TheVariants.{Minimal};
+ghost use Rattle.wasm_codec.specs.formats.Combinators.{flagged, index as index_format};
 ghost use Rattle.wasm_types.specs.TypeRanges.{HeapTypeFits};
 ghost use Rattle.wasm_types.specs.formats.Types.{abstract_type, heap_type, ref_type};
 
@@ -370,7 +372,7 @@ pub fn put_ref_type<A: Allocator>(bytes: &mut Vec<u8, A>, ty: RefType)
 impl Encode for AbstractHeapType {
     ghost bytes = { abstract_type.bytes };
 
-    ghost IsWritten = { IsShortest abstract_type.Encodes abstract_type.bytes };
+    ghost IsWritten = { IsMinimal abstract_type.Encodes abstract_type.bytes };
 
     fn encode<A: Allocator>(&self, sink: &mut Vec<u8, A>) -> Result<(), EncodeError> {
         sink.reserve(1)?;
@@ -385,7 +387,7 @@ impl Encode for AbstractHeapType {
 impl Encode for HeapType {
     ghost bytes = { heap_type.bytes };
 
-    ghost IsWritten = { IsShortest heap_type.Encodes heap_type.bytes };
+    ghost IsWritten = { IsMinimal heap_type.Encodes heap_type.bytes };
 
     fn encode<A: Allocator>(&self, sink: &mut Vec<u8, A>) -> Result<(), EncodeError> {
         sink.reserve(6)?;
@@ -400,11 +402,56 @@ impl Encode for HeapType {
 impl Encode for RefType {
     ghost bytes = { ref_type.bytes };
 
-    ghost IsWritten = { IsShortest ref_type.Encodes ref_type.bytes };
+    ghost IsWritten = { IsMinimal ref_type.Encodes ref_type.bytes };
 
     fn encode<A: Allocator>(&self, sink: &mut Vec<u8, A>) -> Result<(), EncodeError> {
         sink.reserve(7)?;
         put_ref_type(sink, *self);
         Ok(())
     }
+}
+
+/// Returns the length in bytes of the type index that the bytes begin with, in the place of a type. Returns `None`
+/// unless it is minimally encoded in one or two bytes.
+#[inline(always)]
+#[tactic(auto, using(crate::proofs::ScannedValTypes::index_one_scanned, crate::proofs::ScannedValTypes::index_two_scanned))]
+pub fn scan_type_index(bytes: &[u8]) -> Option<usize>
+    ensures { IfSome result (λ count. Scans index_format bytes.now (Some (Minimal count))) }
+{
+    if bytes.len() == 0 {
+        return None;
+    }
+    if bytes[0] < 64 {
+        return Some(1);
+    }
+    if bytes[0] < 128 {
+        return None;
+    }
+    if bytes.len() == 1 {
+        return None;
+    }
+    if bytes[1] >= 64 {
+        return None;
+    }
+    // The second byte only repeats the sign.
+    if bytes[1] == 0 && bytes[0] < 192 {
+        return None;
+    }
+    Some(2)
+}
+
+/// Returns the length in bytes of the heap type that the bytes begin with. Returns `None` unless it is abstract and not
+/// shared, or a type index of one or two bytes.
+#[inline(always)]
+#[tactic(auto, using(crate::proofs::ScannedValTypes::one_heap, crate::proofs::ScannedValTypes::concrete_found))]
+pub fn scan_heap_type(bytes: &[u8]) -> Option<usize>
+    ensures { IfSome result (λ count. Scans heap_type bytes.now (Some (Minimal count))) }
+{
+    if bytes.len() == 0 {
+        return None;
+    }
+    if bytes[0] < 0x68 || bytes[0] >= 0x76 {
+        return scan_type_index(bytes);
+    }
+    Some(1)
 }

@@ -1,7 +1,7 @@
 //! Subtypes, and the entries of a type section (Core 3.0, Recursive Types and Type Section).
 ghost use Rattle.std.specs.List.{All};
 ghost use Rattle.std.specs.Prelude.{◌≡◌, ◌++◌, IfErr, OnOk, Some, length, take};
-ghost use Rattle.wasm_codec.specs.Encoding.{IsCount, IsCountRefusal, IsRefusal, IsShortest, OnlyTooLong};
+ghost use Rattle.wasm_codec.specs.Encoding.{IsCount, IsCountRefusal, IsRefusal, IsMinimal, OnlyTooLong};
 ghost use Rattle.wasm_codec.specs.Leb128.{unsigned_leb128};
 ghost use Rattle.wasm_codec.specs.Places.{Place, Reads, byte_at};
 ghost use Rattle.wasm_codec.specs.Rewriter.{Rewrites};
@@ -177,7 +177,7 @@ fn append_supertypes<A: Allocator>(
 ) -> Result<(), EncodeError>
     ensures ok { OnOk result (sink.new.items ≡ sink.old.items ++ supertypes_bytes is_final supertypes.now) }
     ensures can { OnOk result (IsCount (length supertypes.now)) }
-    ensures written { OnOk result (All (IsShortest EncodesU32 unsigned_leb128) supertypes.now) }
+    ensures written { OnOk result (All (IsMinimal EncodesU32 unsigned_leb128) supertypes.now) }
     ensures refused { IfErr result (IsCountRefusal (length supertypes.now)) }
     ensures kept { take (length sink.old.items) sink.new.items ≡ sink.old.items }
 {
@@ -192,7 +192,7 @@ fn append_supertypes<A: Allocator>(
 fn append_sub<A: Allocator>(ty: &SubType, sink: &mut Vec<u8, A>) -> Result<(), EncodeError>
     ensures ok { OnOk result (sink.new.items ≡ sink.old.items ++ sub_type.bytes ty.now) }
     ensures can { OnOk result (CountedSub ty.now) }
-    ensures written { OnOk result (IsShortest sub_type.Encodes sub_type.bytes ty.now) }
+    ensures written { OnOk result (IsMinimal sub_type.Encodes sub_type.bytes ty.now) }
     ensures refused { IfErr result (IsRefusal CountedSub OnlyTooLong ty.now) }
     ensures kept { take (length sink.old.items) sink.new.items ≡ sink.old.items }
 {
@@ -207,7 +207,7 @@ fn append_sub<A: Allocator>(ty: &SubType, sink: &mut Vec<u8, A>) -> Result<(), E
 impl Encode for SubType {
     ghost bytes = { sub_type.bytes };
 
-    ghost IsWritten = { IsShortest sub_type.Encodes sub_type.bytes };
+    ghost IsWritten = { IsMinimal sub_type.Encodes sub_type.bytes };
 
     ghost CanEncode = { CountedSub };
 
@@ -227,7 +227,7 @@ impl Encode for SubType {
 impl Encode for TypeEntry {
     ghost bytes = { recursive_type.bytes };
 
-    ghost IsWritten = { IsShortest recursive_type.Encodes recursive_type.bytes };
+    ghost IsWritten = { IsMinimal recursive_type.Encodes recursive_type.bytes };
 
     ghost CanEncode = { CountedEntry };
 

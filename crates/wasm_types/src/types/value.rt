@@ -1,14 +1,18 @@
 //! Value types and storage types (Core 3.0, Value Types and Composite Types).
-ghost use Rattle.std.specs.Prelude.{◌≡◌, ◌++◌, ◌+◌, ◌≤◌, vec_len, vec_capacity};
-ghost use Rattle.wasm_codec.specs.Encoding.{IsShortest};
+ghost use Rattle.std.specs.Prelude.{◌≡◌, ◌∷◌, ◌++◌, ◌+◌, ◌≤◌, true, List, ℕ, Some, IfSome, vec_len, vec_capacity};
+ghost use Rattle.wasm_codec.specs.Encoding.{IsMinimal};
 ghost use Rattle.wasm_codec.specs.Inputs.{Takes};
+ghost use Rattle.wasm_codec.specs.Scanning.{Scans};
+ghost use Rattle.wasm_codec.specs.declared.rewriter.scan.Scanned.TheVariants.{Minimal};
 ghost use Rattle.wasm_types.specs.TypeRanges.{StorageTypeFits, ValTypeFits};
 ghost use Rattle.wasm_types.specs.Types.{is_defaultable, is_numeric, is_reference, is_vector, unpacked};
 ghost use Rattle.wasm_types.specs.declared.types.value.StorageType.TheVariants as storage_types;
 ghost use Rattle.wasm_types.specs.declared.types.value.ValType.TheVariants.{Ref};
 ghost use Rattle.wasm_types.specs.formats.Types.{storage_type, val_type};
 
-use crate::types::heap::{RefType, put_ref_type, take_ref_type_as};
+use crate::types::heap::{
+    RefType, put_ref_type, scan_heap_type, scan_type_index, take_ref_type_as,
+};
 use std::alloc::Allocator;
 use wasm_codec::encode::EncodeError;
 use wasm_codec::input::Input;
@@ -221,7 +225,7 @@ pub(crate) fn put_storage_type<A: Allocator>(bytes: &mut Vec<u8, A>, ty: Storage
 impl Encode for ValType {
     ghost bytes = { val_type.bytes };
 
-    ghost IsWritten = { IsShortest val_type.Encodes val_type.bytes };
+    ghost IsWritten = { IsMinimal val_type.Encodes val_type.bytes };
 
     fn encode<A: Allocator>(&self, sink: &mut Vec<u8, A>) -> Result<(), EncodeError> {
         sink.reserve(7)?;
@@ -235,11 +239,53 @@ impl Encode for ValType {
 impl Encode for StorageType {
     ghost bytes = { storage_type.bytes };
 
-    ghost IsWritten = { IsShortest storage_type.Encodes storage_type.bytes };
+    ghost IsWritten = { IsMinimal storage_type.Encodes storage_type.bytes };
 
     fn encode<A: Allocator>(&self, sink: &mut Vec<u8, A>) -> Result<(), EncodeError> {
         sink.reserve(7)?;
         put_storage_type(sink, *self);
         Ok(())
+    }
+}
+
+/// Checks whether the byte alone is a minimally encoded value type: a number or vector type, or a nullable reference to
+/// an abstract heap type.
+#[inline(always)]
+pub fn is_whole_type(byte: u8) -> bool
+    ensures { result ≡ true → (more : List ℕ) → Scans val_type (byte ∷ more) (Some (Minimal 1)) }
+{
+    if byte < 0x68 {
+        return false;
+    }
+    if byte >= 0x80 {
+        return false;
+    }
+    byte < 0x76 || byte >= 0x7b
+}
+
+/// Returns the length in bytes of the value type that the bytes begin with. Returns `None` unless it is minimally
+/// encoded, and its heap type, if it has one, can be scanned.
+#[inline(always)]
+#[tactic(auto, using(crate::proofs::ScannedValTypes::whole_scanned))]
+pub fn scan_val_type(bytes: &[u8]) -> Option<usize>
+    ensures { IfSome result (λ count. Scans val_type bytes.now (Some (Minimal count))) }
+{
+    if bytes.len() == 0 {
+        return None;
+    }
+    if is_whole_type(bytes[0]) {
+        return Some(1);
+    }
+    match bytes[0] {
+        // After this byte, an abstract heap type would be a long form.
+        0x63 => {
+            let index = scan_type_index(&bytes[1..])?;
+            Some(1 + index)
+        }
+        0x64 => {
+            let heap = scan_heap_type(&bytes[1..])?;
+            Some(1 + heap)
+        }
+        _ => None,
     }
 }

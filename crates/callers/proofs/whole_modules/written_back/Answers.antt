@@ -6,7 +6,7 @@ use Rattle.wasm_codec.specs.declared.reader.ReadError.TheVariants as read_errors
 use Rattle.wasm_codec.specs.Outcomes.{IsOrMemory}
 use Rattle.wasm_sections.specs.declared.module_sections.ModuleSection.{ModuleSection}
 use Rattle.wasm_sections.specs.formats.ModuleSectionParts.{ModuleSectionParts, all_module_section_parts}
-use Rattle.wasm_sections.specs.formats.ModuleSections.{ShortestWholeModule, whole_module}
+use Rattle.wasm_sections.specs.formats.ModuleSections.{MinimalWholeModule, whole_module}
 use Rattle.wasm_encoder.specs.declared.error.Error.TheVariants as errors
 use Rattle.callers.proofs.whole_modules.written_back.Goals as goal
 
@@ -31,4 +31,4 @@ returns-clause-same c = λ sections g.
     let read = c.in_ok-sections.ensures.decodes in
     let is : all_module_section_parts c.deref.result.now ≡ sections = ap all_module_section_parts c.deref.ensures.value ∙ read.one (all_module_section_parts c.in_ok-sections.sections.items) sections read.given g in
     let given = subst (λ (vs : List ModuleSectionParts). whole_module.Encodes c.args.bytes.now vs) (sym is) g in
-    subst (λ (vs : List ModuleSectionParts). ShortestWholeModule c.in_ok-from_sections.field-0 vs) is (c.in_ok-from_sections.ensures.builds.encoded c.args.bytes.now given)
+    subst (λ (vs : List ModuleSectionParts). MinimalWholeModule c.in_ok-from_sections.field-0 vs) is (c.in_ok-from_sections.ensures.builds.encoded c.args.bytes.now given)

@@ -54,6 +54,10 @@ fn function(rt: &(impl AllocGlobal + Print)) -> Result<Function, Fail> {
 fn function_of(rt: &(impl AllocGlobal + Print + Abort), calls: &[Call]) -> Result<Function, Fail> {
     let mut function = function(rt)?;
     assert_eq!(rt; function.byte_len(), 5);
+    if let Err(EncodeError::Memory) = function.restart(LOCALS.iter().copied()) {
+        println!(rt; "refused")?;
+        assert_eq!(rt; function.byte_len(), 5);
+    }
     if let Err(EncodeError::Memory) = function.calls(calls) {
         println!(rt; "refused")?;
         assert_eq!(rt; function.byte_len(), 5);

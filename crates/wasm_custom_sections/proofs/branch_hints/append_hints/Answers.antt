@@ -10,7 +10,7 @@ returns-clause-ok g c =
     where_ok c.encode_list.result (hints_appended c.args.item.now.function_index c.args.item.now.hints.now c.args.sink.now.items c.put_u32.new.bytes.items c.encode_list.new.sink.items first) c.encode_list.ensures.ok
 
 pub returns-clause-written : goal.returns-clause-written
-returns-clause-written g c = where_both_ok c.encode_list.result (λ can. hints_written c.args.item.now.function_index c.args.item.now.hints.now c.put_u32.ensures.shortest can.0) c.encode_list.ensures.can c.encode_list.ensures.written
+returns-clause-written g c = where_both_ok c.encode_list.result (λ can. hints_written c.args.item.now.function_index c.args.item.now.hints.now c.put_u32.ensures.minimal can.0) c.encode_list.ensures.can c.encode_list.ensures.written
 
 pub returns-clause-kept : goal.returns-clause-kept
 returns-clause-kept g c =

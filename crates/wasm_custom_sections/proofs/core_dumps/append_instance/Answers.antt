@@ -13,4 +13,4 @@ returns-clause-ok g c =
 pub returns-clause-written : goal.returns-clause-written
 returns-clause-written g c =
     let instance = instance_of (c.args.item.now.module_index, (c.args.item.now.memories.now, c.args.item.now.globals.now)) in
-    where_both_ok c.encode_list-2.result (λ can. instance_written instance c.put_u32.ensures.shortest c.in_ok-encode_list.ensures.can.0 c.in_ok-encode_list.ensures.written can.0) c.encode_list-2.ensures.can c.encode_list-2.ensures.written
+    where_both_ok c.encode_list-2.result (λ can. instance_written instance c.put_u32.ensures.minimal c.in_ok-encode_list.ensures.can.0 c.in_ok-encode_list.ensures.written can.0) c.encode_list-2.ensures.can c.encode_list-2.ensures.written

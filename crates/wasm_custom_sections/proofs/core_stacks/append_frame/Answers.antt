@@ -15,4 +15,4 @@ pub returns-clause-written : goal.returns-clause-written
 returns-clause-written g c =
     let item = c.args.item.now in
     let frame = frame_of (item.instance_index, (item.function_index, (item.code_offset, (item.locals.now, item.stack.now)))) in
-    where_both_ok c.encode_list-2.result (λ can. frame_written frame c.put_u32.ensures.shortest c.put_u32-2.ensures.shortest c.put_u32-3.ensures.shortest c.in_ok-encode_list.ensures.can.0 c.in_ok-encode_list.ensures.written can.0) c.encode_list-2.ensures.can c.encode_list-2.ensures.written
+    where_both_ok c.encode_list-2.result (λ can. frame_written frame c.put_u32.ensures.minimal c.put_u32-2.ensures.minimal c.put_u32-3.ensures.minimal c.in_ok-encode_list.ensures.can.0 c.in_ok-encode_list.ensures.written can.0) c.encode_list-2.ensures.can c.encode_list-2.ensures.written

@@ -20,7 +20,7 @@ returns-in_default-clause-none c =
 pub overflow_sub-end : goal.overflow_sub-end
 overflow_sub-end c =
     let w = c.loop-cursor.invariant.walked in
-    let fewer = section_takes c.loop-cursor.cursor c.read_section.new.cursor (parts_of c.in-Ok.section) c.fork-start.ensures.bytes c.in-Ok.ensures.reads in
+    let fewer = section_takes c.loop-cursor.cursor c.read_section.new.cursor (parts_of c.in-Ok.section) c.are_bytes.ensures c.in-Ok.ensures.reads in
     omega (arith, c.len-in-Some.ensures, fewer, ap (length {A = ℕ}) w.parts, length-append w.front c.loop-cursor.cursor.left)
 
 pub returns-in-Some-clause-some : goal.returns-in-Some-clause-some
@@ -32,10 +32,10 @@ returns-in-Some-clause-some c =
     let some : 0 < length here.left = omega (arith, c.loop-cursor-test.true, c.len.ensures) in
     let at_is : (length bytes - c.len-in-loop-cursor.result) + length here.left ≡ length bytes = omega (arith, c.len-in-loop-cursor.ensures, ap (length {A = ℕ}) w.parts, length-append w.front here.left) in
     let longer = subst (λ (found : Option Refusal). IfSome found (λ _. IsLongerInside s)) c.in-Some.is c.in_ok-longer.ensures.some in
-    first_there bytes here c.read_section.new.cursor s c.fork-start.ensures.bytes some w c.in-Ok.ensures.reads (length bytes - c.len-in-loop-cursor.result) at_is longer
+    first_there bytes here c.read_section.new.cursor s c.are_bytes.ensures some w c.in-Ok.ensures.reads (length bytes - c.len-in-loop-cursor.result) at_is longer
 
 pub loop-cursor-smaller : goal.loop-cursor-smaller
-loop-cursor-smaller c = omega (arith, section_takes c.loop-cursor.cursor c.read_section.new.cursor (parts_of c.in-Ok.section) c.fork-start.ensures.bytes c.in-Ok.ensures.reads)
+loop-cursor-smaller c = omega (arith, section_takes c.loop-cursor.cursor c.read_section.new.cursor (parts_of c.in-Ok.section) c.are_bytes.ensures c.in-Ok.ensures.reads)
 
 pub loop-cursor-preserved : goal.loop-cursor-preserved
 loop-cursor-preserved c =
@@ -43,7 +43,7 @@ loop-cursor-preserved c =
     let s = parts_of c.in-Ok.section in
     let some : 0 < length here.left = omega (arith, c.loop-cursor-test.true, c.len.ensures) in
     let minimal : IsMinimalInside s = search (rules, c.in_default-2.is, c.in_default-2.not-Some, c.in_ok-longer.ensures.none) in
-    record { walked = walked_on c.args.sections.now here c.read_section.new.cursor s c.fork-start.ensures.bytes some c.loop-cursor.invariant.walked c.in-Ok.ensures.reads minimal }
+    record { walked = walked_on c.args.sections.now here c.read_section.new.cursor s c.are_bytes.ensures some c.loop-cursor.invariant.walked c.in-Ok.ensures.reads minimal }
 
 pub returns-clause-none : goal.returns-clause-none
 returns-clause-none c = walked_all c.args.sections.now c.loop-cursor.cursor.left c.loop-cursor.invariant.walked (nil_from_length c.loop-cursor.cursor.left (omega (arith, c.loop-cursor-test.false, c.len.ensures)))

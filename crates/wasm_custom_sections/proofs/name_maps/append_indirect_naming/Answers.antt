@@ -1,6 +1,6 @@
 use Rattle.std.proofs.Common.{◌≡◌, ◌++◌, List, OnOk, subst}
 use Rattle.std.specs.List.{All}
-use Rattle.wasm_codec.specs.Encoding.{IsShortest}
+use Rattle.wasm_codec.specs.Encoding.{IsMinimal}
 use Rattle.wasm_codec.specs.Leb128.{unsigned_leb128}
 use Rattle.wasm_codec.specs.Lists.{items_bytes}
 use Rattle.wasm_externals.proofs.ExternalLaws.{kept_at_last, where_both_ok, where_ok}
@@ -21,9 +21,9 @@ returns-clause-ok g c =
 pub returns-clause-written : goal.returns-clause-written
 returns-clause-written g c =
     let can : OnOk c.encode_list.result (AreCountedNames c.args.item.now.names) = subst (λ (ns : List Naming). OnOk c.encode_list.result (AreCountedNames ns)) c.as_slice.ensures.value c.encode_list.ensures.can in
-    let written : OnOk c.encode_list.result (All (λ n. IsShortest naming.Encodes naming.bytes (naming_parts n)) c.args.item.now.names) =
-    subst (λ (ns : List Naming). OnOk c.encode_list.result (All (λ n. IsShortest naming.Encodes naming.bytes (naming_parts n)) ns)) c.as_slice.ensures.value c.encode_list.ensures.written in
-    where_both_ok c.encode_list.result (indirect_written c.args.item.now c.put_u32.ensures.shortest) can written
+    let written : OnOk c.encode_list.result (All (λ n. IsMinimal naming.Encodes naming.bytes (naming_parts n)) c.args.item.now.names) =
+    subst (λ (ns : List Naming). OnOk c.encode_list.result (All (λ n. IsMinimal naming.Encodes naming.bytes (naming_parts n)) ns)) c.as_slice.ensures.value c.encode_list.ensures.written in
+    where_both_ok c.encode_list.result (indirect_written c.args.item.now c.put_u32.ensures.minimal) can written
 
 pub returns-clause-kept : goal.returns-clause-kept
 returns-clause-kept g c =

@@ -11,7 +11,7 @@ returns-clause-ok g c =
     where_ok c.append_name.result (naming_appended (naming_parts c.args.item.now) c.args.sink.now.items c.put_u32.new.bytes.items c.append_name.new.sink.items first) c.append_name.ensures.ok
 
 pub returns-clause-written : goal.returns-clause-written
-returns-clause-written g c = where_ok c.append_name.result (naming_written (naming_parts c.args.item.now) c.put_u32.ensures.shortest) c.append_name.ensures.written
+returns-clause-written g c = where_ok c.append_name.result (naming_written (naming_parts c.args.item.now) c.put_u32.ensures.minimal) c.append_name.ensures.written
 
 pub returns-clause-kept : goal.returns-clause-kept
 returns-clause-kept g c =

@@ -10,4 +10,4 @@ returns-clause-ok g c =
     (definition_appended c.in-Some.place c.args.sink.now.items c.put_u32.new.bytes.items c.put_u32-2.new.bytes.items c.put_u32-3.new.bytes.items first c.put_u32-2.ensures.items c.put_u32-3.ensures.items)
 
 pub returns-clause-written : goal.returns-clause-written
-returns-clause-written g c = definition_if_there c.args.there c.args.definition c.in-Some.place c.in-Some.is (definition_there c.in-Some.place c.put_u32.ensures.shortest c.put_u32-2.ensures.shortest c.put_u32-3.ensures.shortest)
+returns-clause-written g c = definition_if_there c.args.there c.args.definition c.in-Some.place c.in-Some.is (definition_there c.in-Some.place c.put_u32.ensures.minimal c.put_u32-2.ensures.minimal c.put_u32-3.ensures.minimal)

@@ -11,7 +11,7 @@ returns-clause-ok g c =
     where_ok c.append_name_if.result (item_appended (item_parts c.args.item.now) c.has_name.result c.has_name.ensures c.args.kind c.args.sink.now.items c.push_reserved.new.self.items c.put_u32.new.bytes.items c.put_u32-2.new.bytes.items c.append_name_if.new.sink.items first c.put_u32.ensures.items c.put_u32-2.ensures.items) c.append_name_if.ensures.ok
 
 pub returns-clause-written : goal.returns-clause-written
-returns-clause-written g c = where_ok c.append_name_if.result (item_there (item_parts c.args.item.now) c.has_name.result c.has_name.ensures c.put_u32.ensures.shortest c.put_u32-2.ensures.shortest) c.append_name_if.ensures.written
+returns-clause-written g c = where_ok c.append_name_if.result (item_there (item_parts c.args.item.now) c.has_name.result c.has_name.ensures c.put_u32.ensures.minimal c.put_u32-2.ensures.minimal) c.append_name_if.ensures.written
 
 pub returns-clause-kept : goal.returns-clause-kept
 returns-clause-kept g c =

@@ -8,4 +8,4 @@ returns-clause-ok g c =
     section_appended c.args.item c.args.sink.now.items c.push_reserved.new.self.items c.put_u32.new.bytes.items c.put_u32-2.new.bytes.items first c.put_u32.ensures.items c.put_u32-2.ensures.items
 
 pub returns-clause-written : goal.returns-clause-written
-returns-clause-written g c = section_there c.args.item c.put_u32.ensures.shortest c.put_u32-2.ensures.shortest
+returns-clause-written g c = section_there c.args.item c.put_u32.ensures.minimal c.put_u32-2.ensures.minimal

@@ -7,5 +7,5 @@ use Rattle.wasm_externals.proofs.expressions.scan_expr.Goals as goal
 pub returns : goal.returns
 returns c =
     let bytes = c.args.bytes.now in
-    let one = subst (λ s. Scans instruction bytes (Some s)) c.in-Some-Shortest.field-0-is c.in-Some-Shortest.ensures.scans in
-    expr_scanned bytes c.in-Some-Shortest.count c.if-bytes-lt32.false (omega (arith, c.if-count-bytes.false)) c.if-bytes-count-ne11.false one
+    let one = subst (λ s. Scans instruction bytes (Some s)) c.in-Some-Minimal.field-0-is c.in-Some-Minimal.ensures.scans in
+    expr_scanned bytes c.in-Some-Minimal.count c.if-bytes-lt32.false (omega (arith, c.if-count-bytes.false)) c.if-bytes-count-ne11.false one

@@ -10,4 +10,4 @@ returns-clause-items g c =
     memory_put c.args.ty.now c.args.bytes.now.items c.push_reserved.new.self.items c.put_u64.new.bytes.items c.put_u64_if.new.bytes.items c.put_u32_if.new.bytes.items c.memory_byte.result byte c.push_reserved.ensures.items c.put_u64.ensures.items c.put_u64_if.ensures.items c.put_u32_if.ensures.items
 
 pub returns-clause-written : goal.returns-clause-written
-returns-clause-written g c = memory_written c.args.ty.now c.put_u64.ensures.shortest c.put_u64_if.ensures.shortest c.put_u32_if.ensures.shortest
+returns-clause-written g c = memory_written c.args.ty.now c.put_u64.ensures.minimal c.put_u64_if.ensures.minimal c.put_u32_if.ensures.minimal

@@ -10,4 +10,4 @@ returns-clause-items g c =
     table_put c.args.ty.now c.args.bytes.now.items c.put_ref_type.new.bytes.items c.push_reserved.new.self.items c.put_u64.new.bytes.items c.put_u64_if.new.bytes.items c.limits_byte.result byte c.put_ref_type.ensures.items c.push_reserved.ensures.items c.put_u64.ensures.items c.put_u64_if.ensures.items
 
 pub returns-clause-written : goal.returns-clause-written
-returns-clause-written g c = table_written c.args.ty.now c.put_ref_type.ensures.fits c.put_u64.ensures.shortest c.put_u64_if.ensures.shortest
+returns-clause-written g c = table_written c.args.ty.now c.put_ref_type.ensures.fits c.put_u64.ensures.minimal c.put_u64_if.ensures.minimal

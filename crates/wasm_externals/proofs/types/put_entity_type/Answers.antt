@@ -9,7 +9,7 @@ unfolding entity_type
 returns-in-Function-clause-items g c = rw c.in-Function.is (two c.args.bytes.now.items (0x00 ∷ []) (unsigned_leb128 c.in-Function.index) c.push_reserved.new.self.items c.put_u32.new.bytes.items c.push_reserved.ensures.items c.put_u32.ensures.items)
 
 pub returns-in-Function-clause-written : goal.returns-in-Function-clause-written
-returns-in-Function-clause-written g c = rw c.in-Function.is (function_entity_written c.in-Function.index c.put_u32.ensures.shortest)
+returns-in-Function-clause-written g c = rw c.in-Function.is (function_entity_written c.in-Function.index c.put_u32.ensures.minimal)
 
 pub returns-in-Table-clause-items : goal.returns-in-Table-clause-items
 unfolding entity_type
@@ -44,4 +44,4 @@ unfolding entity_type
 returns-in-FunctionExact-clause-items g c = rw c.in-FunctionExact.is (two c.args.bytes.now.items (0x20 ∷ []) (unsigned_leb128 c.in-FunctionExact.index) c.push_reserved-in-FunctionExact.new.self.items c.put_u32-in-FunctionExact.new.bytes.items c.push_reserved-in-FunctionExact.ensures.items c.put_u32-in-FunctionExact.ensures.items)
 
 pub returns-in-FunctionExact-clause-written : goal.returns-in-FunctionExact-clause-written
-returns-in-FunctionExact-clause-written g c = rw c.in-FunctionExact.is (exact_entity_written c.in-FunctionExact.index c.put_u32-in-FunctionExact.ensures.shortest)
+returns-in-FunctionExact-clause-written g c = rw c.in-FunctionExact.is (exact_entity_written c.in-FunctionExact.index c.put_u32-in-FunctionExact.ensures.minimal)

@@ -6,11 +6,11 @@ use Rattle.wasm_externals.specs.formats.Externals.{global_type}
 use Rattle.wasm_externals.proofs.ScannedEntities.{function_scanned, global_scanned}
 use Rattle.wasm_externals.proofs.types.scan_entity_type.Goals as goal
 
-pub returns-in-Some-Shortest : goal.returns-in-Some-Shortest
-returns-in-Some-Shortest c =
+pub returns-in-Some-Minimal : goal.returns-in-Some-Minimal
+returns-in-Some-Minimal c =
     let bytes = c.args.bytes.now in
-    let n = c.in-Some-Shortest.count in
-    let index = subst (λ s. Scans u32 (take (length bytes - 1) (drop 1 bytes)) (Some s)) c.in-Some-Shortest.field-0-is c.in-Some-Shortest.ensures in
+    let n = c.in-Some-Minimal.count in
+    let index = subst (λ s. Scans u32 (take (length bytes - 1) (drop 1 bytes)) (Some s)) c.in-Some-Minimal.field-0-is c.in-Some-Minimal.ensures in
     function_scanned bytes n (omega arith) c.in-0.is (from_start u32 bytes 1 n index)
 
 pub returns-in_ok-count-in-3 : goal.returns-in_ok-count-in-3

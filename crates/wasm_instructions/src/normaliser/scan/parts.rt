@@ -1,95 +1,23 @@
-//! Scanning of parts of rare instructions: type indexes, types, memory arguments, and the clauses of `try_table` (Core
+//! Scanning of parts of rare instructions: lists of types, block types, memory arguments, and the clauses of `try_table` (Core
 //! 3.0, Instructions).
 ghost use Rattle.std.specs.Prelude.{Some, IfSome};
 ghost use Rattle.wasm_codec.specs.Scanning.{Scans};
-ghost use Rattle.wasm_codec.specs.declared.rewriter.scan.Scanned.TheVariants.{Shortest};
-ghost use Rattle.wasm_codec.specs.formats.Combinators.{a_byte, index, items, u32 as u32_format};
-ghost use Rattle.wasm_types.specs.formats.Types.{heap_type, val_type};
+ghost use Rattle.wasm_codec.specs.declared.rewriter.scan.Scanned.TheVariants.{Minimal};
+ghost use Rattle.wasm_codec.specs.formats.Combinators.{a_byte, items, u32 as u32_format};
+ghost use Rattle.wasm_types.specs.formats.Types.{val_type};
 ghost use Rattle.wasm_instructions.specs.formats.Operands.{block_type, castop, catch_clause, lanes, mem_arg, ordering, vector};
 
 use crate::normaliser::scan::scan_mem_arg;
 use wasm_codec::rewriter::{Scanned, scan_u32, scan_u64};
-use wasm_types::types::is_whole_type;
+use wasm_types::types::{scan_type_index, scan_val_type};
 
 /// Returns the length in bytes of the index that the bytes begin with. Returns `None` unless it is minimally encoded.
 #[inline(always)]
 pub(super) fn scan_index(bytes: &[u8]) -> Option<usize>
-    ensures { IfSome result (λ count. Scans u32_format bytes.now (Some (Shortest count))) }
+    ensures { IfSome result (λ count. Scans u32_format bytes.now (Some (Minimal count))) }
 {
     match scan_u32(bytes) {
-        Some(Scanned::Shortest(count)) => Some(count),
-        _ => None,
-    }
-}
-
-/// Returns the length in bytes of the type index that the bytes begin with, in the place of a type. Returns `None`
-/// unless it is minimally encoded in one or two bytes.
-#[inline(always)]
-#[tactic(auto, using(crate::proofs::ScannedParts::index_one_scanned, crate::proofs::ScannedParts::index_two_scanned))]
-pub(super) fn scan_type_index(bytes: &[u8]) -> Option<usize>
-    ensures { IfSome result (λ count. Scans index bytes.now (Some (Shortest count))) }
-{
-    if bytes.len() == 0 {
-        return None;
-    }
-    if bytes[0] < 64 {
-        return Some(1);
-    }
-    if bytes[0] < 128 {
-        return None;
-    }
-    if bytes.len() == 1 {
-        return None;
-    }
-    if bytes[1] >= 64 {
-        return None;
-    }
-    // The second byte only repeats the sign.
-    if bytes[1] == 0 && bytes[0] < 192 {
-        return None;
-    }
-    Some(2)
-}
-
-/// Returns the length in bytes of the heap type that the bytes begin with. Returns `None` unless it is abstract and not
-/// shared, or a type index of one or two bytes.
-#[inline(always)]
-#[tactic(auto, using(crate::proofs::ScannedPrefixed::one_heap, crate::proofs::ScannedParts::concrete_found))]
-pub(super) fn scan_heap_type(bytes: &[u8]) -> Option<usize>
-    ensures { IfSome result (λ count. Scans heap_type bytes.now (Some (Shortest count))) }
-{
-    if bytes.len() == 0 {
-        return None;
-    }
-    if bytes[0] < 0x68 || bytes[0] >= 0x76 {
-        return scan_type_index(bytes);
-    }
-    Some(1)
-}
-
-/// Returns the length in bytes of the value type that the bytes begin with. Returns `None` unless it is minimally
-/// encoded, and its heap type, if it has one, can be scanned.
-#[inline(always)]
-#[tactic(auto, using(crate::proofs::ScannedParts::whole_scanned))]
-pub fn scan_val_type(bytes: &[u8]) -> Option<usize>
-    ensures { IfSome result (λ count. Scans val_type bytes.now (Some (Shortest count))) }
-{
-    if bytes.len() == 0 {
-        return None;
-    }
-    if is_whole_type(bytes[0]) {
-        return Some(1);
-    }
-    match bytes[0] {
-        // After this byte, an abstract heap type would be a long form.
-        0x63 => {
-            let index = scan_type_index(&bytes[1..])?;
-            Some(1 + index)
-        }
-        0x64 => {
-            let heap = scan_heap_type(&bytes[1..])?;
-            Some(1 + heap)
-        }
+        Some(Scanned::Minimal(count)) => Some(count),
         _ => None,
     }
 }
@@ -98,7 +26,7 @@ pub fn scan_val_type(bytes: &[u8]) -> Option<usize>
 /// list.
 #[inline(always)]
 pub(super) fn scan_one_type(bytes: &[u8]) -> Option<usize>
-    ensures { IfSome result (λ count. Scans (items val_type) bytes.now (Some (Shortest count))) }
+    ensures { IfSome result (λ count. Scans (items val_type) bytes.now (Some (Minimal count))) }
 {
     if bytes.len() == 0 {
         return None;
@@ -115,7 +43,7 @@ pub(super) fn scan_one_type(bytes: &[u8]) -> Option<usize>
 #[inline(always)]
 #[tactic(auto, using(crate::proofs::ScannedParts::type_block_found, crate::proofs::ScannedParts::result_block_found))]
 pub(super) fn scan_any_block_type(bytes: &[u8]) -> Option<usize>
-    ensures { IfSome result (λ count. Scans block_type bytes.now (Some (Shortest count))) }
+    ensures { IfSome result (λ count. Scans block_type bytes.now (Some (Minimal count))) }
 {
     if bytes.len() == 0 {
         return None;
@@ -133,14 +61,14 @@ pub(super) fn scan_any_block_type(bytes: &[u8]) -> Option<usize>
 /// encoded, and the index of its memory, if it has one, has one byte.
 #[inline(always)]
 pub(super) fn scan_any_mem_arg(bytes: &[u8]) -> Option<usize>
-    ensures { IfSome result (λ count. Scans mem_arg bytes.now (Some (Shortest count))) }
+    ensures { IfSome result (λ count. Scans mem_arg bytes.now (Some (Minimal count))) }
 {
     if bytes.len() < 2 {
         return None;
     }
     if bytes[0] < 64 {
         return match scan_mem_arg(bytes) {
-            Some(Scanned::Shortest(count)) => Some(count),
+            Some(Scanned::Minimal(count)) => Some(count),
             _ => None,
         };
     }
@@ -149,7 +77,7 @@ pub(super) fn scan_any_mem_arg(bytes: &[u8]) -> Option<usize>
         return None;
     }
     match scan_u64(&bytes[2..]) {
-        Some(Scanned::Shortest(count)) => Some(2 + count),
+        Some(Scanned::Minimal(count)) => Some(2 + count),
         _ => None,
     }
 }
@@ -158,7 +86,7 @@ pub(super) fn scan_any_mem_arg(bytes: &[u8]) -> Option<usize>
 /// minimally encoded.
 #[inline(always)]
 fn scan_clause(bytes: &[u8]) -> Option<usize>
-    ensures { IfSome result (λ count. Scans catch_clause bytes.now (Some (Shortest count))) }
+    ensures { IfSome result (λ count. Scans catch_clause bytes.now (Some (Minimal count))) }
 {
     if bytes.len() == 0 {
         return None;
@@ -178,7 +106,7 @@ fn scan_clause(bytes: &[u8]) -> Option<usize>
 /// are fewer than 128, and minimally encoded.
 #[inline(always)]
 pub(super) fn scan_clauses(bytes: &[u8]) -> Option<usize>
-    ensures { IfSome result (λ count. Scans (items catch_clause) bytes.now (Some (Shortest count))) }
+    ensures { IfSome result (λ count. Scans (items catch_clause) bytes.now (Some (Minimal count))) }
 {
     if bytes.len() == 0 {
         return None;
@@ -202,7 +130,7 @@ pub(super) fn scan_clauses(bytes: &[u8]) -> Option<usize>
 #[inline(always)]
 #[tactic(auto, using(crate::proofs::ScannedParts::vector_scanned))]
 pub(super) fn scan_vector(bytes: &[u8]) -> Option<usize>
-    ensures { IfSome result (λ count. Scans vector bytes.now (Some (Shortest count))) }
+    ensures { IfSome result (λ count. Scans vector bytes.now (Some (Minimal count))) }
 {
     if bytes.len() < 16 {
         return None;
@@ -214,7 +142,7 @@ pub(super) fn scan_vector(bytes: &[u8]) -> Option<usize>
 #[inline(always)]
 #[tactic(auto, using(crate::proofs::ScannedParts::lanes_scanned))]
 pub(super) fn scan_lanes(bytes: &[u8]) -> Option<usize>
-    ensures { IfSome result (λ count. Scans lanes bytes.now (Some (Shortest count))) }
+    ensures { IfSome result (λ count. Scans lanes bytes.now (Some (Minimal count))) }
 {
     if bytes.len() < 16 {
         return None;
@@ -226,7 +154,7 @@ pub(super) fn scan_lanes(bytes: &[u8]) -> Option<usize>
 #[inline(always)]
 #[tactic(auto, using(crate::proofs::ScannedParts::byte_scanned))]
 pub(super) fn scan_byte(bytes: &[u8]) -> Option<usize>
-    ensures { IfSome result (λ count. Scans a_byte bytes.now (Some (Shortest count))) }
+    ensures { IfSome result (λ count. Scans a_byte bytes.now (Some (Minimal count))) }
 {
     if bytes.len() < 1 {
         return None;
@@ -238,7 +166,7 @@ pub(super) fn scan_byte(bytes: &[u8]) -> Option<usize>
 #[inline(always)]
 #[tactic(auto, using(crate::proofs::ScannedParts::ordering_scanned))]
 pub(super) fn scan_ordering(bytes: &[u8]) -> Option<usize>
-    ensures { IfSome result (λ count. Scans ordering bytes.now (Some (Shortest count))) }
+    ensures { IfSome result (λ count. Scans ordering bytes.now (Some (Minimal count))) }
 {
     if bytes.len() == 0 {
         return None;
@@ -253,7 +181,7 @@ pub(super) fn scan_ordering(bytes: &[u8]) -> Option<usize>
 #[inline(always)]
 #[tactic(auto, using(crate::proofs::ScannedParts::castop_scanned))]
 pub(super) fn scan_castop(bytes: &[u8]) -> Option<usize>
-    ensures { IfSome result (λ count. Scans castop bytes.now (Some (Shortest count))) }
+    ensures { IfSome result (λ count. Scans castop bytes.now (Some (Minimal count))) }
 {
     if bytes.len() == 0 {
         return None;

@@ -1,22 +1,23 @@
 //! Scanning of instructions that are too rare for the inner loop, or have rare operands (Core 3.0, Instructions).
 ghost use Rattle.std.specs.Prelude.{Some, IfSome};
 ghost use Rattle.wasm_codec.specs.Scanning.{Scans};
-ghost use Rattle.wasm_codec.specs.declared.rewriter.scan.Scanned.TheVariants.{Shortest};
+ghost use Rattle.wasm_codec.specs.declared.rewriter.scan.Scanned.TheVariants.{Minimal};
 ghost use Rattle.wasm_instructions.specs.declared.table.opcode.Kind.TheVariants as kinds;
 ghost use Rattle.wasm_instructions.specs.formats.Instructions.{operands_format, instruction};
 ghost use Rattle.wasm_instructions.specs.ScannedOpcodes.{HasOpcode, IsKindAfter};
 
 use crate::normaliser::scan::parts::{
-    scan_any_block_type, scan_any_mem_arg, scan_byte, scan_castop, scan_clauses, scan_heap_type,
-    scan_index, scan_lanes, scan_one_type, scan_ordering, scan_vector,
+    scan_any_block_type, scan_any_mem_arg, scan_byte, scan_castop, scan_clauses, scan_index,
+    scan_lanes, scan_one_type, scan_ordering, scan_vector,
 };
 use crate::table::{Kind, Opcode};
+use wasm_types::types::scan_heap_type;
 
 /// Returns the length in bytes of the instruction that the bytes begin with. Returns `None` unless it is minimally
 /// encoded, and its operands are of a kind that is scanned.
 #[inline(never)]
 pub(crate) fn scan_rare_call(bytes: &[u8]) -> Option<usize>
-    ensures { IfSome result (λ count. Scans instruction bytes.now (Some (Shortest count))) }
+    ensures { IfSome result (λ count. Scans instruction bytes.now (Some (Minimal count))) }
 {
     let (kind, start) = scan_opcode(bytes)?;
     let operands = scan_rare_operands(kind, &bytes[start..])?;
@@ -74,7 +75,7 @@ fn kind_after(prefix: u8, number: u32) -> Option<Kind>
 /// encoded and of a kind that is scanned.
 #[inline(always)]
 fn scan_rare_operands(kind: Kind, bytes: &[u8]) -> Option<usize>
-    ensures { IfSome result (λ count. Scans (operands_format kind) bytes.now (Some (Shortest count))) }
+    ensures { IfSome result (λ count. Scans (operands_format kind) bytes.now (Some (Minimal count))) }
 {
     match kind {
         Kind::None => Some(0),
@@ -104,7 +105,7 @@ fn scan_rare_operands(kind: Kind, bytes: &[u8]) -> Option<usize>
 /// `None` unless they are minimally encoded.
 #[inline(never)]
 fn scan_try_table(bytes: &[u8]) -> Option<usize>
-    ensures { IfSome result (λ count. Scans (operands_format kinds.TryTable) bytes.now (Some (Shortest count))) }
+    ensures { IfSome result (λ count. Scans (operands_format kinds.TryTable) bytes.now (Some (Minimal count))) }
 {
     let ty = scan_any_block_type(bytes)?;
     let clauses = scan_clauses(&bytes[ty..])?;
@@ -115,7 +116,7 @@ fn scan_try_table(bytes: &[u8]) -> Option<usize>
 /// they are minimally encoded.
 #[inline(always)]
 fn scan_mem_lane(bytes: &[u8]) -> Option<usize>
-    ensures { IfSome result (λ count. Scans (operands_format kinds.MemLane) bytes.now (Some (Shortest count))) }
+    ensures { IfSome result (λ count. Scans (operands_format kinds.MemLane) bytes.now (Some (Minimal count))) }
 {
     let arg = scan_any_mem_arg(bytes)?;
     let lane = scan_byte(&bytes[arg..])?;
@@ -126,7 +127,7 @@ fn scan_mem_lane(bytes: &[u8]) -> Option<usize>
 /// they are minimally encoded.
 #[inline(always)]
 fn scan_cast(bytes: &[u8]) -> Option<usize>
-    ensures { IfSome result (λ count. Scans (operands_format kinds.Cast) bytes.now (Some (Shortest count))) }
+    ensures { IfSome result (λ count. Scans (operands_format kinds.Cast) bytes.now (Some (Minimal count))) }
 {
     let flags = scan_castop(bytes)?;
     let label = scan_index(&bytes[flags..])?;
@@ -139,7 +140,7 @@ fn scan_cast(bytes: &[u8]) -> Option<usize>
 /// count and its labels have one byte each.
 #[inline(never)]
 fn scan_labels(bytes: &[u8]) -> Option<usize>
-    ensures { IfSome result (λ count. Scans (operands_format kinds.BrTable) bytes.now (Some (Shortest count))) }
+    ensures { IfSome result (λ count. Scans (operands_format kinds.BrTable) bytes.now (Some (Minimal count))) }
 {
     if bytes.len() == 0 {
         return None;

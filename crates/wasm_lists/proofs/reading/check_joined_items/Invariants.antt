@@ -7,7 +7,7 @@ use Rattle.wasm_lists.proofs.reading.check_joined_items.Given as goal
 abbrev pub invariant-loop-cursor : goal.invariant-loop-cursor
 invariant-loop-cursor g l = record {
   some : PassedCount (minimal_only g.T.Readable.format) (place true l.fn.bytes) l.cursor l.passed;
-  minimal : l.cursor.shortest ≡ true;
+  minimal : l.cursor.minimal ≡ true;
   few : l.passed + length l.cursor.left ≤ length l.fn.bytes;
 }
 

@@ -4,8 +4,8 @@ use Rattle.wasm_lists.proofs.reading.read_item.Goals as goal
 pub returns-in_err-item-clause-lawful : goal.returns-in_err-item-clause-lawful
 returns-in_err-item-clause-lawful g c = Lawful-minimal_if (flag g.row.STRICT) c.is_lawful.ensures.lawful
 
-pub returns-then-not-is_shortest-clause-lawful : goal.returns-then-not-is_shortest-clause-lawful
-returns-then-not-is_shortest-clause-lawful g c = Lawful-minimal_if (flag g.row.STRICT) c.is_lawful.ensures.lawful
+pub returns-then-not-is_minimal-clause-lawful : goal.returns-then-not-is_minimal-clause-lawful
+returns-then-not-is_minimal-clause-lawful g c = Lawful-minimal_if (flag g.row.STRICT) c.is_lawful.ensures.lawful
 
 pub returns-clause-lawful : goal.returns-clause-lawful
 returns-clause-lawful g c = Lawful-minimal_if (flag g.row.STRICT) c.is_lawful.ensures.lawful

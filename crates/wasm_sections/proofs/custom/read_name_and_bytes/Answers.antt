@@ -11,4 +11,4 @@ returns-in-Err-clause-reads c = rw (c.new.ensures.error, error_is c.in-Err.fault
 pub returns-clause-reads : goal.returns-clause-reads
 returns-clause-reads c =
     let rest = all_taken c.in-Ok-take.bytes.now c.read_name.new.cursor.left c.len-left.result c.len-left.ensures c.in-Ok-take.ensures.ok.0 in
-    returns_it custom_parts custom_body c.args.body.now (record { name = c.in-Ok.name; bytes = c.in-Ok-take.bytes }) (custom_there c.args.body.now c.new-cursor.result c.new-cursor.ensures c.in-Ok.name.now c.in-Ok-take.bytes.now c.read_name.new.cursor c.in-Ok.ensures.reads c.fork-start.ensures.bytes rest)
+    returns_it custom_parts custom_body c.args.body.now (record { name = c.in-Ok.name; bytes = c.in-Ok-take.bytes }) (custom_there c.args.body.now c.new-cursor.result c.new-cursor.ensures c.in-Ok.name.now c.in-Ok-take.bytes.now c.read_name.new.cursor c.in-Ok.ensures.reads c.are_bytes.ensures rest)

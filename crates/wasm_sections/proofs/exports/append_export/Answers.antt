@@ -10,7 +10,7 @@ returns-clause-ok g c =
     export_appended (export_parts c.args.export.now) c.args.sink.now.items c.append_name.new.sink.items c.push_reserved.new.self.items c.put_u32.new.bytes.items c.kind_byte.result c.in_ok-append_name.ensures.ok c.kind_byte.ensures kinded c.put_u32.ensures.items
 
 pub returns-clause-written : goal.returns-clause-written
-returns-clause-written g c = export_written (export_parts c.args.export.now) c.in_ok-append_name.ensures.written c.put_u32.ensures.shortest
+returns-clause-written g c = export_written (export_parts c.args.export.now) c.in_ok-append_name.ensures.written c.put_u32.ensures.minimal
 
 pub returns-clause-kept : goal.returns-clause-kept
 returns-clause-kept g c = kept_after _ _ _ (returns-clause-ok g c)

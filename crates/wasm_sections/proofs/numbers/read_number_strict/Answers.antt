@@ -7,18 +7,18 @@ use Rattle.wasm_sections.proofs.numbers.read_number_strict.Goals as goal
 pub returns-in-Err-clause-reads : goal.returns-in-Err-clause-reads
 returns-in-Err-clause-reads c = rw (c.new.ensures.error, error_is c.in-Err.fault 0 c.in-Err.ensures.err) (refuses (λ number. number) (minimal_only u32) c.args.body.now 0 (short_wanting c.args.body.now c.new-cursor.result c.new-cursor.ensures c.u32.new.self c.in-Err.fault c.in-Err.ensures.reads c.in-Err.ensures.err))
 
-pub returns-then-not-is_shortest-clause-reads : goal.returns-then-not-is_shortest-clause-reads
-returns-then-not-is_shortest-clause-reads c = rw c.refused.ensures.error (refuses (λ number. number) (minimal_only u32) c.args.body.now 0 (short_long c.args.body.now c.new-cursor.result c.new-cursor.ensures c.in-Ok.number c.u32.new.self c.in-Ok.ensures.reads (sym c.is_shortest.ensures ∙ c.if-not-is_shortest.true)))
+pub returns-then-not-is_minimal-clause-reads : goal.returns-then-not-is_minimal-clause-reads
+returns-then-not-is_minimal-clause-reads c = rw c.refused.ensures.error (refuses (λ number. number) (minimal_only u32) c.args.body.now 0 (short_long c.args.body.now c.new-cursor.result c.new-cursor.ensures c.in-Ok.number c.u32.new.self c.in-Ok.ensures.reads (sym c.is_minimal.ensures ∙ c.if-not-is_minimal.true)))
 
 pub overflow_sub-at : goal.overflow_sub-at
-overflow_sub-at c = omega (arith, fewer_left c.args.body.now c.new-cursor.result c.new-cursor.ensures c.in-Ok.number c.u32.new.self c.fork-start.ensures.bytes c.in-Ok.ensures.reads, c.len-then-len-gt0.ensures)
+overflow_sub-at c = omega (arith, fewer_left c.args.body.now c.new-cursor.result c.new-cursor.ensures c.in-Ok.number c.u32.new.self c.are_bytes.ensures c.in-Ok.ensures.reads, c.len-then-len-gt0.ensures)
 
 pub returns-then-len-gt0-clause-reads : goal.returns-then-len-gt0-clause-reads
 returns-then-len-gt0-clause-reads c =
-    let short : c.u32.new.self.shortest ≡ true = sym c.is_shortest.ensures ∙ c.if-not-is_shortest.false in
-    rw c.refused-then-len-gt0.ensures.error (refuses (λ number. number) (minimal_only u32) c.args.body.now (length c.args.body.now - c.len-then-len-gt0.result) (short_left_over c.args.body.now c.new-cursor.result c.new-cursor.ensures c.in-Ok.number (length c.args.body.now - c.len-then-len-gt0.result) c.u32.new.self c.fork-start.ensures.bytes c.in-Ok.ensures.reads short (omega (arith, c.if-len-gt0.true, c.len.ensures)) (omega (arith, c.len-then-len-gt0.ensures))))
+    let short : c.u32.new.self.minimal ≡ true = sym c.is_minimal.ensures ∙ c.if-not-is_minimal.false in
+    rw c.refused-then-len-gt0.ensures.error (refuses (λ number. number) (minimal_only u32) c.args.body.now (length c.args.body.now - c.len-then-len-gt0.result) (short_left_over c.args.body.now c.new-cursor.result c.new-cursor.ensures c.in-Ok.number (length c.args.body.now - c.len-then-len-gt0.result) c.u32.new.self c.are_bytes.ensures c.in-Ok.ensures.reads short (omega (arith, c.if-len-gt0.true, c.len.ensures)) (omega (arith, c.len-then-len-gt0.ensures))))
 
 pub returns-clause-reads : goal.returns-clause-reads
 returns-clause-reads c =
-    let short : c.u32.new.self.shortest ≡ true = sym c.is_shortest.ensures ∙ c.if-not-is_shortest.false in
-    returns_it (λ number. number) (minimal_only u32) c.args.body.now c.in-Ok.number (short_there c.args.body.now c.new-cursor.result c.new-cursor.ensures c.in-Ok.number c.u32.new.self c.fork-start.ensures.bytes c.in-Ok.ensures.reads short (omega (arith, c.if-len-gt0.false, c.len.ensures)))
+    let short : c.u32.new.self.minimal ≡ true = sym c.is_minimal.ensures ∙ c.if-not-is_minimal.false in
+    returns_it (λ number. number) (minimal_only u32) c.args.body.now c.in-Ok.number (short_there c.args.body.now c.new-cursor.result c.new-cursor.ensures c.in-Ok.number c.u32.new.self c.are_bytes.ensures c.in-Ok.ensures.reads short (omega (arith, c.if-len-gt0.false, c.len.ensures)))

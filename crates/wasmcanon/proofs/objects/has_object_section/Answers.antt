@@ -17,7 +17,7 @@ returns-then-is_object_section-clause-yes c =
     λ e. object_found c.args.sections.now c.loop-cursor.cursor c.read_section.new.cursor (parts_of c.in-Ok.section) c.loop-cursor.invariant.searched some c.in-Ok.ensures.reads (c.is_object_section.ensures.yes c.if-is_object_section.true)
 
 pub loop-cursor-smaller : goal.loop-cursor-smaller
-loop-cursor-smaller c = omega (arith, section_takes c.loop-cursor.cursor c.read_section.new.cursor (parts_of c.in-Ok.section) c.fork-start.ensures.bytes c.in-Ok.ensures.reads)
+loop-cursor-smaller c = omega (arith, section_takes c.loop-cursor.cursor c.read_section.new.cursor (parts_of c.in-Ok.section) c.are_bytes.ensures c.in-Ok.ensures.reads)
 
 pub loop-cursor-preserved : goal.loop-cursor-preserved
 loop-cursor-preserved c =

@@ -22,7 +22,7 @@ returns-in_default c =
     searched_nowhere c.args.sections.now c.loop-cursor.cursor c.read_section.new.cursor (λ sections. AreOffsetNames c.args.hints_moved sections c.loop-cursor.names.items) c.in_default.field-0 c.loop-cursor.invariant.searched some c.in_default.ensures.reads c.in_default.ensures.err
 
 pub loop-cursor-smaller-in_ok-push : goal.loop-cursor-smaller-in_ok-push
-loop-cursor-smaller-in_ok-push c = omega (arith, section_takes c.loop-cursor.cursor c.read_section.new.cursor (parts_of c.in-Ok.section) c.fork-start.ensures.bytes c.in-Ok.ensures.reads)
+loop-cursor-smaller-in_ok-push c = omega (arith, section_takes c.loop-cursor.cursor c.read_section.new.cursor (parts_of c.in-Ok.section) c.are_bytes.ensures c.in-Ok.ensures.reads)
 
 pub loop-cursor-preserved-in_ok-push : goal.loop-cursor-preserved-in_ok-push
 loop-cursor-preserved-in_ok-push c =
@@ -34,7 +34,7 @@ loop-cursor-preserved-in_ok-push c =
     record { searched = searched_on c.args.sections.now c.loop-cursor.cursor c.read_section.new.cursor section c.loop-cursor.invariant.searched some c.in-Ok.ensures.reads (λ before all. subst (AreOffsetNames c.args.hints_moved (before ++ section ∷ [])) (sym c.in_ok-push.ensures.items) (more_named section name is keeps all)) }
 
 pub loop-cursor-smaller : goal.loop-cursor-smaller
-loop-cursor-smaller c = omega (arith, section_takes c.loop-cursor.cursor c.read_section.new.cursor (parts_of c.in-Ok.section) c.fork-start.ensures.bytes c.in-Ok.ensures.reads)
+loop-cursor-smaller c = omega (arith, section_takes c.loop-cursor.cursor c.read_section.new.cursor (parts_of c.in-Ok.section) c.are_bytes.ensures c.in-Ok.ensures.reads)
 
 pub loop-cursor-preserved : goal.loop-cursor-preserved
 loop-cursor-preserved c =

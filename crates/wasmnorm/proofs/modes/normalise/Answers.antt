@@ -8,7 +8,7 @@ use Rattle.wasmnorm.specs.Modes.{NormalForm}
 use Rattle.wasmnorm.specs.declared.modes.Mode.TheVariants.{Module}
 use Rattle.wasmnorm.proofs.modes.normalise.Goals as goal
 
--- where the shortest encoding of each value that is encoded is given, only what encodes nothing is refused
+-- where the minimal encoding of each value that is encoded is given, only what encodes nothing is refused
 refused_none : {X V : Type 0} (G : Grammar V) (encoding_of : V → List ℕ) (view : X → List ℕ) (bytes : List ℕ) (result : Result X ReadError)
     → ((v : V) → G bytes v → IsOrMemory view (encoding_of v) result) → IfRefused result (λ _. EncodesSome G bytes → ⊥)
 refused_none G encoding_of view bytes (Ok x) given = tt
@@ -18,7 +18,7 @@ refused_none G encoding_of view bytes (Err (errors.Refused at)) given = λ some.
 pub returns-in-Module-clause-complete : goal.returns-in-Module-clause-complete
 returns-in-Module-clause-complete c encoding normal =
     let n : NormalForm Module c.args.input.items encoding = rw c.in-Module.is at normal in
-    subst (λ (t : List ℕ). IsOrMemory (λ given. given.items) t c.rewrite_module.result) (sym n.is_shortest) (c.rewrite_module.ensures.normalises.complete n.value n.encoded)
+    subst (λ (t : List ℕ). IsOrMemory (λ given. given.items) t c.rewrite_module.result) (sym n.is_minimal) (c.rewrite_module.ensures.normalises.complete n.value n.encoded)
 
 pub returns-in-Module-clause-unencoded : goal.returns-in-Module-clause-unencoded
 returns-in-Module-clause-unencoded c =

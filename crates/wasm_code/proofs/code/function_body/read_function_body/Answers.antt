@@ -23,5 +23,5 @@ returns c =
     let mid = c.read_locals.new.cursor in
     let ok = c.in_ok-instructions.ensures.ok in
     let all : c.in_ok-instructions.instructions.now ≡ mid.left = ok.0 ∙ take_all c.len-count.result mid.left (omega (arith, c.len-count.ensures)) in
-    let tells : c.is_shortest.result ≡ mid.shortest = c.is_shortest.ensures ∙ ap (λ (p : Place). p.shortest) ok.1 in
-    rw (all, c.set_shortest.ensures, tells) (record { reads = function_read c.args.cursor.now c.body.new.self c.in_ok-body.body mid c.in_ok-locals.locals at c.in_ok-locals.ensures.reads })
+    let tells : c.is_minimal.result ≡ mid.minimal = c.is_minimal.ensures ∙ ap (λ (p : Place). p.minimal) ok.1 in
+    rw (all, c.set_minimal.ensures, tells) (record { reads = function_read c.args.cursor.now c.body.new.self c.in_ok-body.body mid c.in_ok-locals.locals at c.in_ok-locals.ensures.reads })

@@ -22,4 +22,4 @@ returns-in_err-calls c =
 pub returns : goal.returns
 returns c =
     let at : CodeAt c.args.cursor.now c.body.new.self c.in_ok-code.code = record { body = c.in_ok-code.ensures.reads; tells = c.in_ok-code.ensures.tells } in
-    rw (c.set_shortest.ensures, c.is_shortest.ensures) (record { reads = code_read c.args.cursor.now c.body.new.self c.in_ok-code.code c.read_locals.new.cursor c.read_calls.new.cursor c.in_ok-locals.locals c.in_ok-calls.calls at c.in_ok-locals.ensures.reads c.in_ok-calls.ensures.reads c.in_ok-calls.ensures.ended })
+    rw (c.set_minimal.ensures, c.is_minimal.ensures) (record { reads = code_read c.args.cursor.now c.body.new.self c.in_ok-code.code c.read_locals.new.cursor c.read_calls.new.cursor c.in_ok-locals.locals c.in_ok-calls.calls at c.in_ok-locals.ensures.reads c.in_ok-calls.ensures.reads c.in_ok-calls.ensures.ended })

@@ -8,7 +8,7 @@ returns c =
     let r = c.self.inside in
     let m = c.move_run-end in
     let z = c.write_size-self-inside in
-    let long = length_all r.bytes.now r.written r.from r.position r.end r.shortest r.bytes.ghost_name c.self.invariant.0 c.self.invariant.1 (omega arith) c.args.self.now c.self.view_is in
+    let long = length_all r.bytes.now r.written r.from r.position r.end r.minimal r.bytes.ghost_name c.self.invariant.0 c.self.invariant.1 (omega arith) c.args.self.now c.self.view_is in
     let len = length_done r.bytes.now r.written r.from r.position c.self.invariant.0 c.self.invariant.1 (omega arith) in
-    resizes r.bytes.now m.new.bytes z.new.bytes r.written r.from r.position r.end r.shortest r.bytes.ghost_name m.result c.args.mark c.args.digits z.result c.self.invariant.2 (omega (arith, m.ensures.end)) m.ensures.done (omega (arith, len, m.ensures.end)) m.ensures.left (omega (arith, long, m.ensures.end)) z.ensures.done z.ensures.left
+    resizes r.bytes.now m.new.bytes z.new.bytes r.written r.from r.position r.end r.minimal r.bytes.ghost_name m.result c.args.mark c.args.digits z.result c.self.invariant.2 (omega (arith, m.ensures.end)) m.ensures.done (omega (arith, len, m.ensures.end)) m.ensures.left (omega (arith, long, m.ensures.end)) z.ensures.done z.ensures.left
     ∙ ap (resized c.args.mark c.args.digits) c.self.view_is

@@ -9,4 +9,4 @@ returns-clause-ok g c =
     hint_appended c.args.self.now c.value_byte.result c.args.sink.now.items c.put_u32.new.bytes.items c.put_u32-2.new.bytes.items c.push_reserved.new.self.items c.value_byte.ensures first c.put_u32-2.ensures.items c.push_reserved.ensures.items
 
 pub returns-clause-written : goal.returns-clause-written
-returns-clause-written g c = hint_written c.args.self.now c.put_u32.ensures.shortest
+returns-clause-written g c = hint_written c.args.self.now c.put_u32.ensures.minimal

@@ -12,7 +12,7 @@ unfolding ranges
 scanned_kind-requires c = refl
 
 pub returns-in-None : goal.returns-in-None
-returns-in-None c = call_scanned c.args.bytes.now kinds.None (scanned.Shortest 0) (omega arith) (c.in_ok-kind.ensures ∙ ap Some c.in-None.is) (none_scanned (drop 1 c.args.bytes.now))
+returns-in-None c = call_scanned c.args.bytes.now kinds.None (scanned.Minimal 0) (omega arith) (c.in_ok-kind.ensures ∙ ap Some c.in-None.is) (none_scanned (drop 1 c.args.bytes.now))
 
 pub returns-in-Index : goal.returns-in-Index
 returns-in-Index c =

@@ -7,14 +7,14 @@ use Rattle.wasm_lists.proofs.item_reader.ItemReader.list_at.Goals as goal
 pub invariant_of-result : goal.invariant_of-result
 invariant_of-result g c =
     let h = c.in-Ok.ensures in
-    let one = count_read c.args.is_strict c.args.bytes.now c.read_item_if.new.cursor c.in-Ok.count (rw c.new-cursor.ensures at h.bytes) (rw c.new-cursor.ensures at h.reads) in
+    let one = count_read c.args.is_strict c.args.bytes.now c.read_count.new.cursor c.in-Ok.count (rw c.new-cursor.ensures at h.bytes) (rw c.new-cursor.ensures at h.reads) in
     (h.passed, one.shorter, search rules, (omega arith, one.small))
 
 pub returns-in-Ok-clause-gives : goal.returns-in-Ok-clause-gives
 returns-in-Ok-clause-gives g c =
     let h = c.in-Ok.ensures in
     let bytes = c.args.bytes.now in
-    let next = c.read_item_if.new.cursor in
+    let next = c.read_count.new.cursor in
     let fits = rw c.new-cursor.ensures at h.bytes in
     let one = count_read c.args.is_strict bytes next c.in-Ok.count fits (rw c.new-cursor.ensures at h.reads) in
     let lawful = c.is_lawful.ensures in
@@ -23,4 +23,4 @@ returns-in-Ok-clause-gives g c =
 pub returns-in-Err-clause-refused : goal.returns-in-Err-clause-refused
 returns-in-Err-clause-refused g c =
     let h = c.in-Err.ensures in
-    count_missing c.is_lawful.ensures.lawful c.args.is_strict c.args.bytes.now c.read_item_if.new.cursor c.in-Err.fault c.behind.result (rw c.new-cursor.ensures at h.bytes) (subst (λ (p : Place). Reads (minimal_if c.args.is_strict u32).at p c.read_item_if.new.cursor (Err c.in-Err.fault)) c.new-cursor.ensures h.reads) c.args.start (rw c.new.ensures.error at c.behind.ensures.moved)
+    count_missing c.is_lawful.ensures.lawful c.args.is_strict c.args.bytes.now c.read_count.new.cursor c.in-Err.fault c.behind.result (rw c.new-cursor.ensures at h.bytes) (subst (λ (p : Place). Reads (minimal_if c.args.is_strict u32).at p c.read_count.new.cursor (Err c.in-Err.fault)) c.new-cursor.ensures h.reads) c.args.start (rw c.new.ensures.error at c.behind.ensures.moved)

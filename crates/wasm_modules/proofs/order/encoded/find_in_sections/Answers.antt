@@ -28,12 +28,12 @@ returns-in-Err-clause-why c =
     walked_wrong c.args.sections.now c.loop-cursor.code.now c.loop-cursor.cursor c.read_section.new.cursor (parts_of c.in-Ok.section) c.loop-cursor.index c.loop-cursor.check c.loop-cursor.invariant.walked some c.in-Ok.ensures.reads c.facts_of.result c.in-Err.error c.facts_of.ensures c.in-Err.ensures.why
 
 pub loop-cursor-smaller : goal.loop-cursor-smaller
-loop-cursor-smaller c = omega (arith, section_takes c.loop-cursor.cursor c.read_section.new.cursor (parts_of c.in-Ok.section) c.fork-start.ensures.bytes c.in-Ok.ensures.reads)
+loop-cursor-smaller c = omega (arith, section_takes c.loop-cursor.cursor c.read_section.new.cursor (parts_of c.in-Ok.section) c.are_bytes.ensures c.in-Ok.ensures.reads)
 
 pub loop-cursor-preserved : goal.loop-cursor-preserved
 loop-cursor-preserved c =
     let some : 0 < length c.loop-cursor.cursor.left = omega (arith, c.loop-cursor-test.true, c.len.ensures) in
-    let takes = section_takes c.loop-cursor.cursor c.read_section.new.cursor (parts_of c.in-Ok.section) c.fork-start.ensures.bytes c.in-Ok.ensures.reads in
+    let takes = section_takes c.loop-cursor.cursor c.read_section.new.cursor (parts_of c.in-Ok.section) c.are_bytes.ensures c.in-Ok.ensures.reads in
     record {
       walked = rw c.first_code-code.ensures (walked_on c.args.sections.now c.loop-cursor.code.now c.loop-cursor.cursor c.read_section.new.cursor (parts_of c.in-Ok.section) c.loop-cursor.index c.loop-cursor.check c.loop-cursor.invariant.walked some c.in-Ok.ensures.reads c.section.new.self c.facts_of.result c.facts_of.ensures c.in_default-section.ensures.bodies c.in_default-section.ensures.ok);
       few = omega (arith, takes, c.loop-cursor.invariant.few);

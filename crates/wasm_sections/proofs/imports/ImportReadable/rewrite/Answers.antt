@@ -1,7 +1,7 @@
-use Rattle.wasm_codec.specs.declared.rewriter.scan.Scanned.TheVariants.{Shortest}
+use Rattle.wasm_codec.specs.declared.rewriter.scan.Scanned.TheVariants.{Minimal}
 use Rattle.wasm_codec.proofs.Shortening.{scanned_rewritten}
 use Rattle.wasm_sections.proofs.EntryLaws.{import_is_lawful}
 use Rattle.wasm_sections.proofs.imports.ImportReadable.rewrite.Goals as goal
 
 pub returns-in-Some : goal.returns-in-Some
-returns-in-Some c = record { rewrites = scanned_rewritten import_is_lawful c.args.rewriter.now c.rewrite_scanned.new.self c.left.result.now c.left.ensures c.are_bytes.ensures (Shortest c.in-Some.count) c.in-Some.ensures c.rewrite_scanned.ensures }
+returns-in-Some c = record { rewrites = scanned_rewritten import_is_lawful c.args.rewriter.now c.rewrite_scanned.new.self c.left.result.now c.left.ensures c.are_bytes.ensures (Minimal c.in-Some.count) c.in-Some.ensures c.rewrite_scanned.ensures }

@@ -13,4 +13,4 @@ returns-in-Ok c =
     let bytes = c.in-Ok.bytes.now in
     let rest = all_taken bytes c.read_short_name.new.cursor.left c.len.result c.len.ensures c.in-Ok.ensures.ok.0 in
     let read = custom_read mid c.short_body.new.self c.in_ok-body.body c.in_ok-body.ensures.reads c.in_ok-body.ensures.tells c.read_short_name.new.cursor name bytes c.in_ok-name.ensures rest in
-    rw (c.set_shortest.ensures, c.is_shortest.ensures, c.in-Ok.ensures.ok.1) (custom_section_read c.args.cursor.now mid _ (custom_of (name, bytes)) first read)
+    rw (c.set_minimal.ensures, c.is_minimal.ensures, c.in-Ok.ensures.ok.1) (custom_section_read c.args.cursor.now mid _ (custom_of (name, bytes)) first read)

@@ -13,4 +13,4 @@ pub returns : goal.returns
 returns c =
     let rest = all_taken c.in_ok-bytes.bytes.now c.read_name.new.cursor.left c.len.result c.len.ensures c.in_ok-bytes.ensures.ok.0 in
     let read = custom_read c.args.cursor.now c.body.new.self c.in_ok-body.body c.in_ok-body.ensures.reads c.in_ok-body.ensures.tells c.read_name.new.cursor c.in_ok-name.name.now c.in_ok-bytes.bytes.now c.in_ok-name.ensures.reads rest in
-    rw (c.set_shortest.ensures, c.is_shortest.ensures, c.in_ok-bytes.ensures.ok.1) (record { reads = read })
+    rw (c.set_minimal.ensures, c.is_minimal.ensures, c.in_ok-bytes.ensures.ok.1) (record { reads = read })

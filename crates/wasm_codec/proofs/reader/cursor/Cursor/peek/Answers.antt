@@ -9,6 +9,6 @@ returns c =
     let lt : c.self.inside.position < length c.self.inside.bytes.now = omega arith in
     let more = drop_more c.self.inside.bytes.now c.self.inside.position 0 lt in
     record {
-      sees = (place c.self.inside.shortest (drop (c.self.inside.position + 1) c.self.inside.bytes.now), ap byte_at (sym c.self.view_is) ∙ ap (byte_from c.self.inside.shortest) more);
+      sees = (place c.self.inside.minimal (drop (c.self.inside.position + 1) c.self.inside.bytes.now), ap byte_at (sym c.self.view_is) ∙ ap (byte_from c.self.inside.minimal) more);
       err = tt;
     }

@@ -1,9 +1,0 @@
-use Rattle.std.proofs.Common.{◌≡◌, drop}
-use Rattle.wasm_code.specs.formats.Sections.{all_parts_of}
-use Rattle.wasm_encoder.specs.RawSections.{first_body_of}
-use Rattle.wasm_encoder.proofs.raw.first_body.Given as goal
-
-abbrev pub invariant-loop-section : goal.invariant-loop-section
-invariant-loop-section l = record {
-  left : first_body_of l.id (all_parts_of l.sections) ≡ first_body_of l.id (all_parts_of (drop l.section-index l.sections));
-}
