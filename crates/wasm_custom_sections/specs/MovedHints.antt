@@ -1,10 +1,9 @@
 -- Modules whose branch hints are moved with their instructions, once code is minimally encoded (WebAssembly proposal,
 -- Branch Hinting).
-use Rattle.std.specs.Prelude.{◌≡◌, ◌⊎◌, ℕ, ◌==◌, Bool, true, false, List, [], ◌∷◌, ◌++◌, codes, Option, Some, None, count_by, if◌then◌else◌}
+use Rattle.std.specs.Prelude.{◌≡◌, ◌⊎◌, ℕ, Bool, true, false, List, [], ◌∷◌, ◌++◌, codes, Option, Some, None, count_by}
 use Rattle.std.specs.List.{AllByRecursion}
-use Rattle.wasm_codec.specs.Outcomes.{EncodesSome}
 use Rattle.wasm_codec.specs.formats.Bodies.{byte_list}
-use Rattle.wasm_codec.specs.formats.Combinators.{items, minimal_only}
+use Rattle.wasm_codec.specs.formats.Combinators.{items}
 use Rattle.wasm_externals.specs.declared.types.EntityType.{EntityType}
 use Rattle.wasm_externals.specs.declared.types.EntityType.TheVariants as types
 use Rattle.wasm_code.specs.formats.Modules.{raw_module, raw_section}
@@ -44,16 +43,22 @@ abbrev pub ImportsFunctions : Option (List ℕ) → ℕ → Type 0
 ImportsFunctions None count = count ≡ 0
 ImportsFunctions (Some body) count = (imports : List ImportParts) × (items import_entry).Encodes body imports × (function_imports imports ≡ count)
 
--- The module's number of imported functions, and the body of its code section.
-pub record IsCodeOf (module_bytes : List ℕ) (code : HintedCode) : Type 0 where
-  pub sections : List SectionParts
-  pub encodes : raw_module.Encodes module_bytes sections
-  pub imported : ImportsFunctions (first_body_of import_section_id sections) code.imported_functions
-  pub body : first_body_of code_section_id sections ≡ Some code.code.items
-
 -- The section is a custom section of branch hints.
 abbrev pub IsHintSection : SectionParts → Type 0
 IsHintSection section = IsNameOf section (codes "metadata.code.branch_hint")
+
+-- One of the sections has branch hints.
+abbrev pub HasHintSection : List SectionParts → Type 0
+HasHintSection [] = ⊥
+HasHintSection (section ∷ sections) = IsHintSection section ⊎ HasHintSection sections
+
+-- The module has branch hints. These are its number of imported functions, and the body of its code section.
+pub record IsCodeOf (module_bytes : List ℕ) (code : HintedCode) : Type 0 where
+  pub sections : List SectionParts
+  pub encodes : raw_module.Encodes module_bytes sections
+  pub hinted : HasHintSection sections
+  pub imported : ImportsFunctions (first_body_of import_section_id sections) code.imported_functions
+  pub body : first_body_of code_section_id sections ≡ Some code.code.items
 
 -- The section with this list as contents.
 abbrev pub hint_section : List FunctionHints → SectionParts
@@ -70,8 +75,8 @@ pub record MovesSection (imported : ℕ) (bodies : List (List ℕ)) (section mov
 abbrev pub IsMovedSection : ℕ → List (List ℕ) → SectionParts → SectionParts → Type 0
 IsMovedSection imported bodies section moved = MovesSection imported bodies section moved ⊎ ((moved ≡ section) × (IsHintSection section → ⊥))
 
--- The result is the module with its hints moved with their instructions, which are those of this code. Section sizes are
--- minimally encoded.
+-- The result is the module with its hints moved with their instructions, which are those of this code. It is a module
+-- itself, whose section sizes are minimally encoded.
 pub record MovesHints (code : HintedCode) (module_bytes result : List ℕ) : Type 0 where
   pub bodies : List (List ℕ)
   pub are_bodies : (items byte_list).Encodes code.code.items bodies
@@ -79,7 +84,12 @@ pub record MovesHints (code : HintedCode) (module_bytes result : List ℕ) : Typ
   pub encodes : raw_module.Encodes module_bytes sections
   pub moved : List SectionParts
   pub moves : Each (IsMovedSection code.imported_functions bodies) sections moved
+  pub is_module : raw_module.Encodes result moved
   pub written : result ≡ raw_module.bytes moved
+
+-- The hints of the module move in at most one way.
+pub record MovesInOneWay (code : HintedCode) (module_bytes : List ℕ) : Type 0 where
+  pub one : (a b : List ℕ) → MovesHints code module_bytes a → MovesHints code module_bytes b → a ≡ b
 
 -- ---- inside
 
@@ -95,10 +105,15 @@ pub record MovesContents (imported : ℕ) (bodies : List (List ℕ)) (contents m
   pub moves : Each (MovesFunction imported bodies) functions others
   pub written : moved ≡ (items function_hints).bytes others
 
+-- The section can't be moved: no section in range is this one with its hints moved.
+abbrev pub CantMove : ℕ → List (List ℕ) → SectionParts → Type 0
+CantMove imported bodies section = (moved : SectionParts) → raw_section.InRange moved → IsMovedSection imported bodies section moved → ⊥
+
 -- The section was appended with its hints moved.
 pub record AppendsMoved (imported : ℕ) (bodies : List (List ℕ)) (section : SectionParts) (old new : List ℕ) : Type 0 where
   pub moved : SectionParts
   pub moves : IsMovedSection imported bodies section moved
+  pub in_range : raw_section.InRange section → raw_section.InRange moved
   pub written : new ≡ old ++ raw_section.bytes moved
   pub minimal : IsMinimalSection section → IsMinimalSection moved
 
@@ -106,5 +121,6 @@ pub record AppendsMoved (imported : ℕ) (bodies : List (List ℕ)) (section : S
 pub record MovesSoFar (imported : ℕ) (bodies : List (List ℕ)) (sections : List SectionParts) (done : List ℕ) : Type 0 where
   pub moved : List SectionParts
   pub moves : Each (IsMovedSection imported bodies) sections moved
+  pub in_range : AllByRecursion raw_section.InRange sections → AllByRecursion raw_section.InRange moved
   pub minimal : AllByRecursion IsMinimalSection sections → AllByRecursion IsMinimalSection moved
   pub written : done ≡ raw_module.bytes moved

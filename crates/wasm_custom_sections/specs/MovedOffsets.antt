@@ -30,11 +30,16 @@ pub record BeginsAt (body : List ℕ) (number offset : ℕ) : Type 0 where
   pub offset_is : length front ≡ offset
   pub goes_on : 0 < length rest
 
--- An instruction begins at the first offset of this body, and at the second one of the body's minimal encoding. As many
--- instructions precede it there.
+-- No instruction begins at this offset of the body.
+abbrev pub NoInstructionAt : List ℕ → ℕ → Type 0
+NoInstructionAt body offset = (number : ℕ) → BeginsAt body number offset → ⊥
+
+-- An instruction begins at the first offset of this body. The second offset is the length of the minimal encoding of what
+-- precedes it, so in the body's minimal encoding the same instruction begins there.
 pub record MovesOffset (body : List ℕ) (old new : ℕ) : Type 0 where
   pub number : ℕ
   pub stood : BeginsAt body number old
+  pub new_is : length (function_code.bytes (stood.locals, stood.before)) ≡ new
   pub stands : (code : Code) → function_code.Encodes body code → BeginsAt (function_code.bytes code) number new
 
 -- The hint for the same instruction of this body, once the body is minimally encoded.
@@ -51,6 +56,11 @@ pub record IsFront (body : List ℕ) (front : Front) : Type 0 where
   pub encodes : function_code.Encodes (take front.len body) code
   pub minimal_is : length (function_code.bytes code) ≡ front.minimal
   pub no_longer : front.minimal ≤ front.len
+
+-- The first bytes of the body are its locals. Each instruction begins after them.
+pub record AreLocals (body : List ℕ) (front : Front) : Type 0 where
+  pub front_is : IsFront body front
+  pub first : (number offset : ℕ) → BeginsAt body number offset → front.len ≤ offset
 
 -- The first bytes of the body, up to this offset, at which an instruction begins.
 pub record IsFrontUpTo (body : List ℕ) (offset : ℕ) (front : Front) : Type 0 where

@@ -1,11 +1,13 @@
 //! Branch hints of a module whose code gets its minimal encoding: their offsets move with their instructions
 //! (WebAssembly proposal, Branch Hinting).
-ghost use Rattle.std.specs.Prelude.{◌≡◌, Some, None, Ok, true, IfOk, IfSome, IfNone};
+ghost use Rattle.std.specs.Prelude.{◌≡◌, ℕ, List, Some, None, Ok, true, false, IfOk, IfSome, IfNone, IsErrAnd};
+ghost use Rattle.wasm_codec.specs.declared.encode.EncodeError.TheVariants.{Memory};
 ghost use Rattle.wasm_code.specs.formats.Sections.{all_parts_of, first_body_of, parts_of};
 ghost use Rattle.wasm_sections.specs.formats.EntryParts.{all_import_parts};
 ghost use Rattle.wasm_sections.specs.formats.ModuleSections.{KeepsMinimal};
-ghost use Rattle.wasm_custom_sections.specs.MovedHints.{AppendsMoved, HasHintBytes, ImportsFunctions, IsCodeOf, IsHintSection, MovesContents, MovesHints, function_imports, import_section_id, is_function as function_type};
+ghost use Rattle.wasm_custom_sections.specs.MovedHints.{AppendsMoved, CantMove, HasHintBytes, HasHintSection, ImportsFunctions, IsCodeOf, IsHintSection, MovesContents, MovesHints, MovesInOneWay, function_imports, import_section_id, is_function as function_type};
 ghost use Rattle.wasm_custom_sections.specs.MovedFunctions.{all_bodies};
+ghost use Rattle.wasm_custom_sections.specs.declared.moved_hints.HintedCode.{HintedCode};
 
 pub mod functions;
 pub mod offsets;
@@ -59,10 +61,12 @@ pub struct HintedCode {
 }
 
 impl HintedCode {
-    /// Copies the code of a module with branch hints. `None` means that the module is malformed, or has no branch hints
-    /// or no code. Fails if memory runs out.
+    /// Copies the code of a module with branch hints. `None` means that the module or its import section is malformed,
+    /// or that it has no branch hints or no code. Fails if memory runs out.
     pub fn of_module(alloc: Global, module: &[u8]) -> Result<Option<HintedCode>, AllocError>
         ensures code { IfOk result (λ found. IfSome found (IsCodeOf module.now)) }
+        // It copies the code of every module that has branch hints, code and well-formed imports.
+        ensures none { IfOk result (λ found. IfNone found ((code : HintedCode) → IsCodeOf module.now code → ⊥)) }
     {
         let sections = match read_module(alloc, module) {
             Ok(sections) => sections,
@@ -88,10 +92,15 @@ impl HintedCode {
     /// Returns a module with its branch hints moved to where their instructions are in the minimal encoding of this code.
     ///
     /// The hints of `module` are those of this code, with their offsets as they were. `None` means that they can't be
-    /// moved: a section of hints is malformed, a function has no body here, no instruction begins at an offset, or the
-    /// offsets of a function aren't ascending. Fails if memory runs out.
+    /// moved: a section of hints is malformed, a function has no body here, no instruction begins at an offset, or a
+    /// section gets longer than 4,294,967,295 bytes. Fails if memory runs out.
+    #[tactic(auto, using(crate::proofs::MovedModuleLaws::moves_in_one_way))]
     pub fn move_hints(&self, alloc: Global, module: &[u8]) -> Result<Option<Vec<u8>>, AllocError>
         ensures moves { IfOk result (λ found. IfSome found (λ moved. MovesHints self.now module.now moved.items)) }
+        // `None` means that they can't be moved.
+        ensures none { IfOk result (λ found. IfNone found ((moved : List ℕ) → MovesHints self.now module.now moved → ⊥)) }
+        // There is at most one such module.
+        ensures one { MovesInOneWay self.now module.now }
         // A minimally encoded module stays one.
         ensures minimal { IfOk result (λ found. IfSome found (λ moved. KeepsMinimal module.now moved.items)) }
     {
@@ -122,7 +131,10 @@ impl HintedCode {
 }
 
 /// Checks whether one of the sections has branch hints.
-fn has_hints(sections: &[RawSection<'_>]) -> bool {
+fn has_hints(sections: &[RawSection<'_>]) -> bool
+    ensures yes { result ≡ true → HasHintSection (all_parts_of sections.now) }
+    ensures no { result ≡ false → HasHintSection (all_parts_of sections.now) → ⊥ }
+{
     for section in sections {
         if hint_bytes(*section).is_some() {
             return true;
@@ -137,6 +149,7 @@ fn imported_functions(
     sections: &[RawSection<'_>],
 ) -> Result<Option<usize>, AllocError>
     ensures count { IfOk result (λ found. IfSome found (ImportsFunctions (first_body_of import_section_id (all_parts_of sections.now)))) }
+    ensures none { IfOk result (λ found. IfNone found ((count : ℕ) → ImportsFunctions (first_body_of import_section_id (all_parts_of sections.now)) count → ⊥)) }
 {
     let Some(body) = first_body(sections, IMPORT_SECTION_ID) else {
         return Ok(Some(0));
@@ -200,6 +213,7 @@ fn append_moved(
     sink: &mut Vec<u8>,
 ) -> Result<bool, AllocError>
     ensures moved { IfOk result (λ done. done ≡ true → AppendsMoved imported (all_bodies bodies.now) (parts_of section.entry) sink.old.items sink.new.items) }
+    ensures none { IfOk result (λ done. done ≡ false → CantMove imported (all_bodies bodies.now) (parts_of section.entry)) }
 {
     let Some(contents) = hint_bytes(section) else {
         return done(append_section(section.id, &section, sink));
@@ -216,7 +230,8 @@ fn append_moved(
 
 /// Returns whether something was written: `false` if it is too long.
 fn done(outcome: Result<(), EncodeError>) -> Result<bool, AllocError>
-    ensures { IfOk result (λ done. done ≡ true → outcome ≡ Ok tt) }
+    ensures done { IfOk result (λ done. done ≡ true → outcome ≡ Ok tt) }
+    ensures too_long { IfOk result (λ done. done ≡ false → IsErrAnd outcome (λ e. e ≡ Memory → ⊥)) }
 {
     match outcome {
         Ok(()) => Ok(true),
@@ -234,6 +249,7 @@ fn moved_contents(
     bodies: &[BodyBytes<'_>],
 ) -> Result<Option<Vec<u8>>, AllocError>
     ensures moves { IfOk result (λ found. IfSome found (λ moved. MovesContents imported (all_bodies bodies.now) contents.now moved.items)) }
+    ensures none { IfOk result (λ found. IfNone found ((moved : List ℕ) → MovesContents imported (all_bodies bodies.now) contents.now moved → ⊥)) }
 {
     let functions = match read_list_to_end::<FunctionHints, false>(alloc, contents) {
         Ok(functions) => functions,
@@ -244,9 +260,8 @@ fn moved_contents(
         return Ok(None);
     };
     let mut bytes = Vec::new(alloc);
-    match encode_list(moved.as_slice(), &mut bytes) {
-        Ok(()) => Ok(Some(bytes)),
-        Err(EncodeError::Memory) => Err(AllocError),
-        Err(_) => Ok(None),
+    if !done(encode_list(moved.as_slice(), &mut bytes))? {
+        return Ok(None);
     }
+    Ok(Some(bytes))
 }

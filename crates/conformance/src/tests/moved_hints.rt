@@ -49,6 +49,16 @@ fn hints_move_with_their_instructions(rt: HostRuntime) -> Result<(), Fail> {
 }
 
 #[test]
+fn hints_in_descending_order_move(rt: HostRuntime) -> Result<(), Fail> {
+    let alloc = rt.alloc();
+    let Some(moved) = moved(alloc, "23", "0101020F0101090100")? else {
+        return Err(Fail::from("not moved"));
+    };
+    let expected = format!(in alloc; "{SECTIONS}0023{NAME}0101020A0101050100{MINIMAL}")?;
+    is(alloc, moved.as_slice(), expected.as_str())
+}
+
+#[test]
 fn hints_that_stand_nowhere_stay(rt: HostRuntime) -> Result<(), Fail> {
     let alloc = rt.alloc();
     stay(alloc, "20", "0101010A0101")?; // inside `if`
@@ -57,7 +67,6 @@ fn hints_that_stand_nowhere_stay(rt: HostRuntime) -> Result<(), Fail> {
     stay(alloc, "20", "0101017F0101")?; // behind it
     stay(alloc, "20", "010001090101")?; // of the imported function
     stay(alloc, "20", "010301090101")?; // of no function
-    stay(alloc, "23", "0101020F0101090100")?; // in descending order
     stay(alloc, "20", "010101090102") // with a malformed value
 }
 

@@ -1,12 +1,13 @@
 //! Hints of functions, moved with the instructions in the functions' bodies.
 ghost use Rattle.std.proofs.lemmas.List.{map_push};
-ghost use Rattle.std.specs.Prelude.{ℕ, List, refl, IfOk, IfSome};
+ghost use Rattle.std.specs.Prelude.{ℕ, List, refl, IfOk, IfSome, IfNone};
 ghost use Rattle.wasm_codec.specs.Lawful.{IsLawful};
 ghost use Rattle.wasm_codec.specs.Rewriter.{Rewrites};
 ghost use Rattle.wasm_codec.specs.formats.Bodies.{byte_list};
 ghost use Rattle.wasm_codec.specs.formats.Grammar.{TakesBytes};
 ghost use Rattle.wasm_custom_sections.specs.MovedFunctions.{IsBodyAt, MovesFunction, all_bodies, bytes_of_body};
 ghost use Rattle.wasm_custom_sections.specs.MovedOffsets.{Each};
+ghost use Rattle.wasm_custom_sections.specs.declared.branch_hints.FunctionHints.{FunctionHints};
 
 use crate::branch_hints::FunctionHints;
 use crate::moved_hints::offsets::moved_hints;
@@ -63,6 +64,7 @@ pub(crate) fn moved_functions(
     bodies: &[BodyBytes<'_>],
 ) -> Result<Option<Vec<FunctionHints>>, AllocError>
     ensures moves { IfOk result (λ found. IfSome found (λ moved. Each (MovesFunction imported (all_bodies bodies.now)) functions.now moved.items)) }
+    ensures none { IfOk result (λ found. IfNone found ((moved : List FunctionHints) → Each (MovesFunction imported (all_bodies bodies.now)) functions.now moved → ⊥)) }
 {
     let mut moved = Vec::with_capacity(alloc, functions.len())?;
     for function in functions {
@@ -82,6 +84,7 @@ fn moved_function(
     bodies: &[BodyBytes<'_>],
 ) -> Result<Option<FunctionHints>, AllocError>
     ensures moves { IfOk result (λ found. IfSome found (MovesFunction imported (all_bodies bodies.now) function.now)) }
+    ensures none { IfOk result (λ found. IfNone found ((moved : FunctionHints) → MovesFunction imported (all_bodies bodies.now) function.now moved → ⊥)) }
 {
     let Some(body) = body_at(bodies, imported, function.function_index) else {
         return Ok(None);
@@ -98,6 +101,7 @@ fn moved_function(
 /// Returns the body of the function with this index.
 fn body_at<'a>(bodies: &[BodyBytes<'a>], imported: usize, index: u32) -> Option<&'a [u8]>
     ensures body { IfSome result (λ body. IsBodyAt imported (all_bodies bodies.now) index body.now) }
+    ensures none { IfNone result ((body : List ℕ) → IsBodyAt imported (all_bodies bodies.now) index body → ⊥) }
 {
     let number = (index as usize).checked_sub(imported)?;
     let body = bodies.get(number)?;

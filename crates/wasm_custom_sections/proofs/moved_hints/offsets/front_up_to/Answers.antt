@@ -1,6 +1,9 @@
-use Rattle.std.proofs.Common.{arith, refl}
-use Rattle.wasm_custom_sections.proofs.MovedOffsetLaws.{front_goes_on}
+use Rattle.std.proofs.Common.{arith}
+use Rattle.wasm_custom_sections.proofs.MovedOffsetLaws.{none_if}
 use Rattle.wasm_custom_sections.proofs.moved_hints.offsets.front_up_to.Goals as goal
 
-pub returns-in-Ok : goal.returns-in-Ok
-returns-in-Ok c = record { front = front_goes_on c.args.body.now _ c.in-Ok.instructions.items c.args.front c.args.offset c.len.result (omega (arith, c.len.ensures, c.in-Ok.instructions.ok)) c.requires (omega arith) (omega arith) refl c.in-Ok.ensures.normalises.given }
+pub returns-then-offset-front-clause-none : goal.returns-then-offset-front-clause-none
+returns-then-offset-front-clause-none c = none_if c.longer_front.result c.longer_front.ensures.none (λ missing number b. missing (c.requires.locals.first number c.args.offset b) number b)
+
+pub returns-clause-none : goal.returns-clause-none
+returns-clause-none c = none_if c.longer_front-2.result c.longer_front-2.ensures.none (λ missing. missing (omega arith))

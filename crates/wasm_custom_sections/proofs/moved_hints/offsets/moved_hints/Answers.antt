@@ -1,12 +1,12 @@
-use Rattle.std.proofs.Common.{◌+◌, [], false, get_or, refl, subst, sym, take}
+use Rattle.std.proofs.Common.{◌∙◌, ◌+◌, [], false, get_or, refl, subst, sym, take}
 use Rattle.wasm_custom_sections.specs.MovedOffsets.{Each, MovesHint, none}
 use Rattle.wasm_custom_sections.specs.declared.branch_hints.BranchHint.{BranchHint}
-use Rattle.wasm_custom_sections.proofs.MovedOffsetLaws.{each_more, hint_moved}
+use Rattle.wasm_custom_sections.proofs.MovedOffsetLaws.{each_more, hint_moved, no_first_hint, no_hint, no_hints}
 use Rattle.wasm_custom_sections.proofs.moved_hints.offsets.moved_hints.Goals as goal
 
 pub loop-hint-init : goal.loop-hint-init
 loop-hint-init c = record {
-  front_is = rw c.in-Some.is at c.in_ok-locals.ensures.front;
+  front_is = (rw c.in-Some.is at c.in_ok-locals.ensures.locals).front_is;
   moves = subst (Each (MovesHint c.args.body.now) []) (sym c.in_ok-moved.ensures.items) none;
 }
 
@@ -22,3 +22,14 @@ loop-hint-preserved c =
       front_is = front.front_is;
       moves = subst (Each (MovesHint c.args.body.now) (take (i + 1) hints)) (sym c.in_ok-push.ensures.items) (each_more (MovesHint c.args.body.now) hints c.loop-hint.moved.items i d new c.loop-hint-test.true c.loop-hint.invariant.moves one);
     }
+
+pub returns-then-is_empty-clause-moves : goal.returns-then-is_empty-clause-moves
+returns-then-is_empty-clause-moves c = no_hints c.args.body.now c.args.hints.now c.from.result (sym c.is_empty.ensures ∙ c.if-is_empty.true) (c.from.ensures ∙ c.in_ok-moved.ensures.items)
+
+pub returns-in_default-clause-none : goal.returns-in_default-clause-none
+returns-in_default-clause-none c = no_first_hint c.args.body.now c.args.hints.now (sym c.is_empty.ensures ∙ c.if-is_empty.false) (rw c.in_default.is at c.in_ok-locals.ensures.none)
+
+pub returns-in_default-2-clause-none : goal.returns-in_default-2-clause-none
+returns-in_default-2-clause-none c =
+    let d : BranchHint = record { branch_func_offset = 0; likely = false } in
+    no_hint c.args.body.now c.args.hints.now c.loop-hint.hint-index d c.loop-hint-test.true (rw c.in_default-2.is at c.in_ok-next.ensures.none)
