@@ -52,7 +52,7 @@ abbrev pub HasHintSection : List SectionParts → Type 0
 HasHintSection [] = ⊥
 HasHintSection (section ∷ sections) = IsHintSection section ⊎ HasHintSection sections
 
--- The module has branch hints. These are its number of imported functions, and the body of its code section.
+-- The number of imported functions of a module with branch hints, and the body of its code section.
 pub record IsCodeOf (module_bytes : List ℕ) (code : HintedCode) : Type 0 where
   pub sections : List SectionParts
   pub encodes : raw_module.Encodes module_bytes sections

@@ -1,3 +1,4 @@
 pub mod SectionSearches
 pub mod ResultLaws
 pub mod StaleLaws
+pub mod FormLaws

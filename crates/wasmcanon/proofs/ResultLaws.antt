@@ -10,18 +10,18 @@ use Rattle.wasm_codec.specs.declared.reader.DecodeError.TheVariants as decode_er
 use Rattle.wasm_codec.specs.declared.reader.refusal.Refusal.{Refusal}
 use Rattle.wasm_modules.specs.RefusalNumbers.{CountsParts}
 use Rattle.wasm_codec.specs.formats.Combinators.{minimal_only}
-use Rattle.wasm_code.specs.Judging.{verdict_of}
+use Rattle.wasm_code.specs.Longer.{verdict_of}
 use Rattle.wasm_code.specs.Modules.{IsModulePrefixOf}
 use Rattle.wasm_sections.specs.formats.ModuleSections.{KeepsMinimal, MinimalWholeModule, module_section, whole_module}
 use Rattle.wasm_sections.proofs.RawSections.{minimal_normal, normal_minimal}
 use Rattle.wasm_custom_sections.specs.LongerContents.{HasLongerContents, IsFirstLonger}
-use Rattle.wasm_custom_sections.specs.MovedHints.{IsCodeOf}
 use Rattle.wasm_custom_sections.specs.declared.moved_hints.HintedCode.{HintedCode}
+use Rattle.wasm_custom_sections.proofs.MovedModuleLaws.{code_one, same_moves}
 use Rattle.wasm_modules.specs.Selections.{IsChosen}
 use Rattle.wasm_modules.specs.declared.order.ModuleError.{ModuleError}
 use Rattle.wasm_modules.specs.ModuleOrder.{OfModule, IsWhyNot}
 use Rattle.wasm_modules.specs.ModuleOrder as order
-use Rattle.wasmcanon.specs.Run.{Accepts, HasContents, HasHints, IsCanonicalForm, IsForm, IsFormWith, IsLonger, IsReadFailure, Judges, MovesHintsIf}
+use Rattle.wasmcanon.specs.Run.{Accepts, HasCode, HasContents, HasHints, IsCanonicalForm, IsForm, IsFormWith, IsLonger, IsReadFailure, Judges, MovesHintsIf, TellsMoved}
 use Rattle.wasmcanon.specs.declared.order.MisplacedSection.{MisplacedSection}
 use Rattle.wasmcanon.specs.declared.run.FormOptions.{FormOptions}
 use Rattle.wasmcanon.specs.declared.run.Verdict.{Verdict}
@@ -57,25 +57,23 @@ longer_contents true input refusal is longer first canonical = ((canonical.value
 
 -- ---- canonical forms
 
--- the hints of a form of an input that is known
-pub has_hints : (moved : Bool) (code : Option HintedCode) (input encoding hinted : List ℕ) → IfSome code (λ c. IsCodeOf input c) → MovesHintsIf moved code encoding hinted → HasHints moved input encoding hinted
-has_hints false code input encoding hinted is moves = moves
-has_hints true None input encoding hinted is moves = absurd moves
-has_hints true (Some code) input encoding hinted is moves = record { code = code; is_code = is; moves = moves }
-
-code_known : (code : Option HintedCode) (input : List ℕ) → IfSome code (λ c. IfSome (Some input) (λ i. IsCodeOf i c)) → IfSome code (λ c. IsCodeOf input c)
-code_known None input is = tt
-code_known (Some code) input is = is
+-- the hints of a form
+has_hints : (moved flag : Bool) (code : Option HintedCode) (input encoding hinted : List ℕ) → HasCode input code → TellsMoved flag input encoding → MovesHintsIf moved flag code encoding hinted → HasHints moved input encoding hinted
+has_hints false false code input encoding hinted is tells moves = (moves.0, inl tells)
+has_hints false true None input encoding hinted is tells moves = (moves.0, inr (λ moved m. is m.code m.is_code))
+has_hints false true (Some code) input encoding hinted is tells moves = (moves.0, inr (λ moved m. moves.1 refl moved (same_moves m.code code encoding moved (code_one input m.code code m.is_code is) m.moves)))
+has_hints true flag None input encoding hinted is tells moves = absurd moves
+has_hints true flag (Some code) input encoding hinted is tells moves = (subst (λ (t : Bool). TellsMoved t input encoding) moves.0 tells, record { code = code; is_code = is; moves = moves.1 })
 
 -- the form of an input that is known
-pub is_form : (known : Option (List ℕ)) (options : FormOptions) (moved : Bool) (code : Option HintedCode) (encoding hinted part bytes : List ℕ) → IfSome known (λ input. IsCanonicalForm input encoding) → IfSome code (λ c. IfSome known (λ input. IsCodeOf input c)) → MovesHintsIf moved code encoding hinted → KeepsMinimal encoding hinted
+pub is_form : (known : Option (List ℕ)) (options : FormOptions) (moved flag : Bool) (code : Option HintedCode) (encoding hinted part bytes : List ℕ) → IfSome known (λ input. IsCanonicalForm input encoding) → IfSome known (λ input. HasCode input code) → IfSome known (λ input. TellsMoved flag input encoding) → MovesHintsIf moved flag code encoding hinted → KeepsMinimal encoding hinted
     → IsChosen options.sections hinted part → KeepsMinimal hinted part → HasContents options.names part bytes → KeepsMinimal part bytes → IfSome known (λ input. IsFormWith moved options input bytes)
-is_form None options moved code encoding hinted part bytes canonical is moves still chosen keeps contents same = tt
-is_form (Some input) options moved code encoding hinted part bytes canonical is moves still chosen keeps contents same = record {
+is_form None options moved flag code encoding hinted part bytes canonical is tells moves still chosen keeps contents same = tt
+is_form (Some input) options moved flag code encoding hinted part bytes canonical is tells moves still chosen keeps contents same = record {
   encoding = encoding;
   canonical = canonical;
   hinted = hinted;
-  hints = has_hints moved code input encoding hinted (code_known code input is) moves;
+  hints = has_hints moved flag code input encoding hinted is tells moves;
   part = part;
   chosen = chosen;
   contents = contents;

@@ -1,5 +1,5 @@
 -- The output of a run of `wasmcanon`, and its result.
-use Rattle.std.specs.Prelude.{◌≡◌, ◌⊎◌, ℕ, Bool, true, false, List, Option, Some, None, Result, Ok, Err, OnOk}
+use Rattle.std.specs.Prelude.{◌≡◌, ◌⊎◌, ℕ, Bool, true, false, List, Option, Some, None, Result, Ok, Err, IfSome, OnOk}
 use Rattle.std.specs.Io.KnownBytes.{Appends}
 use Rattle.wasm_codec.specs.Outcomes.{EncodesSome, IsNormalForm, IsLongestPrefix}
 use Rattle.wasm_codec.specs.Streams.{AppendsPrefix}
@@ -46,17 +46,28 @@ pub record MovesHintsOf (input encoding bytes : List ℕ) : Type 0 where
   pub is_code : IsCodeOf input code
   pub moves : MovesHints code encoding bytes
 
--- The branch hints of the canonical form are moved with their instructions, or it stays.
+-- If the flag is set, bytes have moved, and the branch hints of the canonical form are moved with their instructions.
+-- Otherwise the form stays: no byte has moved, or the hints can't be moved.
 abbrev pub HasHints : Bool → List ℕ → List ℕ → List ℕ → Type 0
-HasHints false input encoding bytes = bytes ≡ encoding
-HasHints true input encoding bytes = MovesHintsOf input encoding bytes
+HasHints false input encoding bytes = (bytes ≡ encoding) × ((encoding ≡ input) ⊎ ((moved : List ℕ) → MovesHintsOf input encoding moved → ⊥))
+HasHints true input encoding bytes = (encoding ≡ input → ⊥) × MovesHintsOf input encoding bytes
 
--- If the flag is set, there is code, and the bytes are the module with its hints moved with the code's instructions.
--- Otherwise they are the module.
-abbrev pub MovesHintsIf : Bool → Option HintedCode → List ℕ → List ℕ → Type 0
-MovesHintsIf false code encoding bytes = bytes ≡ encoding
-MovesHintsIf true None encoding bytes = ⊥
-MovesHintsIf true (Some code) encoding bytes = MovesHints code encoding bytes
+-- The module has this code with branch hints, if it has one.
+abbrev pub HasCode : List ℕ → Option HintedCode → Type 0
+HasCode input None = (code : HintedCode) → IsCodeOf input code → ⊥
+HasCode input (Some code) = IsCodeOf input code
+
+-- The flag tells whether the form differs from the input.
+abbrev pub TellsMoved : Bool → List ℕ → List ℕ → Type 0
+TellsMoved false input form = form ≡ input
+TellsMoved true input form = form ≡ input → ⊥
+
+-- If the first flag is set, so is the second, there is code, and the bytes are the module with its hints moved with the
+-- code's instructions. Otherwise they are the module, and if the second flag is set, the code's hints can't be moved.
+abbrev pub MovesHintsIf : Bool → Bool → Option HintedCode → List ℕ → List ℕ → Type 0
+MovesHintsIf false has_moved code encoding bytes = (bytes ≡ encoding) × (has_moved ≡ true → IfSome code (λ c. (moved : List ℕ) → MovesHints c encoding moved → ⊥))
+MovesHintsIf true has_moved None encoding bytes = ⊥
+MovesHintsIf true has_moved (Some code) encoding bytes = (has_moved ≡ true) × MovesHints code encoding bytes
 
 -- The bytes are the canonical form of the input with these options. Its branch hints are moved if the flag is set.
 pub record IsFormWith (moved : Bool) (options : FormOptions) (input bytes : List ℕ) : Type 0 where
@@ -74,6 +85,10 @@ pub record IsFormWith (moved : Bool) (options : FormOptions) (input bytes : List
 pub record IsForm (options : FormOptions) (input bytes : List ℕ) : Type 0 where
   pub moved : Bool
   pub form : IsFormWith moved options input bytes
+
+-- With these options an input has at most one canonical form.
+pub record HasOneForm (options : FormOptions) : Type 0 where
+  pub one : (input a b : List ℕ) → IsForm options input a → IsForm options input b → a ≡ b
 
 -- The writer's known contents grew by the canonical form of the input with these options.
 pub record AppendsForm (options : FormOptions) (input : List ℕ) (old new : Option (List ℕ)) : Type 0 where

@@ -15,11 +15,11 @@ pub struct Hinted {
     pub are_moved: bool,
 }
 
-/// Moves the branch hints of a canonical form, if bytes have moved.
+/// Moves the branch hints of a canonical form, if bytes have moved and the hints can be moved.
 ///
-/// They stay if they are malformed, or if no instruction begins at one of their offsets. Fails if memory runs out.
+/// They can't be if they are malformed, or if no instruction begins at one of their offsets. Fails if memory runs out.
 pub fn with_hints(alloc: Global, canonical: Canonical) -> Result<Hinted, AllocError>
-    ensures hints { IfOk result (λ hinted. MovesHintsIf hinted.are_moved canonical.code canonical.bytes.items hinted.bytes.items) }
+    ensures hints { IfOk result (λ hinted. MovesHintsIf hinted.are_moved canonical.has_moved canonical.code canonical.bytes.items hinted.bytes.items) }
     ensures minimal { IfOk result (λ hinted. KeepsMinimal canonical.bytes.items hinted.bytes.items) }
     ensures stays { canonical.has_moved ≡ false → IfOk result (λ hinted. hinted.are_moved ≡ false) }
 {
@@ -28,18 +28,28 @@ pub fn with_hints(alloc: Global, canonical: Canonical) -> Result<Hinted, AllocEr
         has_moved,
         code,
     } = canonical;
-    if has_moved {
-        if let Some(code) = code {
-            if let Some(moved) = code.move_hints(alloc, &bytes)? {
-                return Ok(Hinted {
-                    bytes: moved,
-                    are_moved: true,
-                });
-            }
-        }
+    if !has_moved {
+        return Ok(unmoved(bytes));
     }
+    let Some(code) = code else {
+        return Ok(unmoved(bytes));
+    };
+    let Some(moved) = code.move_hints(alloc, &bytes)? else {
+        return Ok(unmoved(bytes));
+    };
     Ok(Hinted {
+        bytes: moved,
+        are_moved: true,
+    })
+}
+
+/// Returns a canonical form as it is.
+fn unmoved(bytes: Vec<u8>) -> Hinted
+    ensures bytes { result.bytes.items ≡ bytes.items }
+    ensures unmoved { result.are_moved ≡ false }
+{
+    Hinted {
         bytes,
         are_moved: false,
-    })
+    }
 }

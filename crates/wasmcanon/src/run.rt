@@ -4,9 +4,8 @@ ghost use Rattle.std.specs.Io.KnownBytes.{IsAtEnd, Keeps};
 ghost use Rattle.wasm_sections.specs.formats.ModuleSections.{module_section};
 ghost use Rattle.wasm_modules.specs.Counting.{ShowsModule};
 ghost use Rattle.wasm_modules.specs.RefusalNumbers.{CountsParts};
-ghost use Rattle.wasm_custom_sections.specs.MovedHints.{IsCodeOf};
 ghost use Rattle.wasmcanon.specs.Objects.{IsObjectFile, IsNoObjectFile};
-ghost use Rattle.wasmcanon.specs.Run.{Accepts, FormIs, IsModule, IsCanonicalForm, AppendsBeginning, AppendsForm, IsForm, IsHash, IfObjectFile, IfPlaced, IfWriteFailed, NeverWrites, OnceAllIsRead, BeforeAnyWrite, IsReadFailure, Judges, outcome_of, status_of};
+ghost use Rattle.wasmcanon.specs.Run.{Accepts, FormIs, HasCode, HasOneForm, TellsMoved, IsModule, IsCanonicalForm, AppendsBeginning, AppendsForm, IsForm, IsHash, IfObjectFile, IfPlaced, IfWriteFailed, NeverWrites, OnceAllIsRead, BeforeAnyWrite, IsReadFailure, Judges, outcome_of, status_of};
 ghost use Rattle.wasmcanon.specs.StaleSections.{NamesStale};
 ghost use Rattle.wasmcanon.specs.declared.run.Failure.TheVariants.{Memory};
 
@@ -116,7 +115,7 @@ pub enum Verdict {
 /// disagree, unless any order is allowed. Fails with `ObjectFile` if the output would be an object file, unless `objects` is set: its
 /// relocations would be stale. Fails with `Memory` if memory runs out, and with `Read` or `Write` if a read or a write
 /// fails.
-#[tactic(auto, using(crate::proofs::ResultLaws::failed_to_write, crate::proofs::ResultLaws::not_written, crate::proofs::SectionSearches::form_is, crate::proofs::StaleLaws::form_names))]
+#[tactic(auto, using(crate::proofs::FormLaws::has_one_form, crate::proofs::ResultLaws::failed_to_write, crate::proofs::ResultLaws::not_written, crate::proofs::SectionSearches::form_is, crate::proofs::StaleLaws::form_names))]
 pub fn canonicalise<R: Input, W: Write>(
     alloc: Global,
     reader: &mut R,
@@ -133,6 +132,8 @@ pub fn canonicalise<R: Input, W: Write>(
     // The canonical form of the input with these options was appended, and nothing else.
     ensures ok { OnOk result (IfSome (R.remaining reader.old) (λ input.
         AppendsForm options.entry input (W.contents writer.old) (W.contents writer.new))) }
+    // There is only one.
+    ensures one { HasOneForm options.entry }
     // A refused input is malformed, and unless any order is allowed, the sections of an accepted one are in order.
     ensures accepts { IfSome (R.remaining reader.old) (λ input. Accepts any_order input (outcome_of result)) }
     // All of the input is read before it is refused or a byte is written.
@@ -241,11 +242,11 @@ pub fn read_canonical<R: Input>(
 ) -> Result<Canonical, Failure>
     // The result is the canonical form of the input.
     ensures ok { IfOk result (λ form. IfSome (R.remaining reader.old) (λ input. IsCanonicalForm input form.bytes.items)) }
-    // The code is that of the input.
-    ensures code { IfOk result (λ form. IfSome form.code (λ code. IfSome (R.remaining reader.old) (λ input. IsCodeOf input code))) }
-    // If no byte has moved, it is the input.
-    ensures moved { IfOk result (λ form. form.has_moved ≡ false →
-        IfSome (R.remaining reader.old) (λ input. form.bytes.items ≡ input)) }
+    // The code is that of the input, if it has branch hints.
+    ensures code { IfOk result (λ form. IfSome (R.remaining reader.old) (λ input. HasCode input form.code)) }
+    // `has_moved` tells whether it differs from the input.
+    ensures moved { IfOk result (λ form. IfSome (R.remaining reader.old) (λ input.
+        TellsMoved form.has_moved input form.bytes.items)) }
     // A refused input is malformed, and unless any order is allowed, the sections of an accepted one are in order.
     ensures accepts { IfSome (R.remaining reader.old) (λ input. Accepts any_order input (outcome_of result)) }
     // All of the input is read before it is refused.
@@ -267,10 +268,10 @@ pub fn read_canonical<R: Input>(
 pub fn canonical_of(alloc: Global, input: Vec<u8>, any_order: bool) -> Result<Canonical, Failure>
     // The result is the canonical form of the input.
     ensures ok { IfOk result (λ form. IsCanonicalForm input.items form.bytes.items) }
-    // The code is that of the input.
-    ensures code { IfOk result (λ form. IfSome form.code (IsCodeOf input.items)) }
-    // If no byte has moved, it is the input.
-    ensures moved { IfOk result (λ form. form.has_moved ≡ false → form.bytes.items ≡ input.items) }
+    // The code is that of the input, if it has branch hints.
+    ensures code { IfOk result (λ form. HasCode input.items form.code) }
+    // `has_moved` tells whether it differs from the input.
+    ensures moved { IfOk result (λ form. TellsMoved form.has_moved input.items form.bytes.items) }
     // A refused input is malformed, and unless any order is allowed, the sections of an accepted one are in order.
     ensures accepts { Accepts any_order input.items (outcome_of result) }
     // The section and the item that it names are numbered by those before them.

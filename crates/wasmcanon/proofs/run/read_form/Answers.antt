@@ -11,7 +11,7 @@ returns-clause-ok g c =
     let chosen = c.choose_sections-chosen.ensures in
     let contents = c.in_ok-bytes.ensures in
     form_with known c.args.options hinted.hinted.are_moved c.in_ok-bytes.bytes.items
-    (is_form known c.args.options hinted.hinted.are_moved canonical.canonical.code canonical.canonical.bytes.items hinted.hinted.bytes.items c.choose_sections-chosen.result.items c.in_ok-bytes.bytes.items canonical.ensures.ok canonical.ensures.code hinted.ensures.hints hinted.ensures.minimal chosen.chosen chosen.minimal contents.contents contents.minimal)
+    (is_form known c.args.options hinted.hinted.are_moved canonical.canonical.has_moved canonical.canonical.code canonical.canonical.bytes.items hinted.hinted.bytes.items c.choose_sections-chosen.result.items c.in_ok-bytes.bytes.items canonical.ensures.ok canonical.ensures.code canonical.ensures.moved hinted.ensures.hints hinted.ensures.minimal chosen.chosen chosen.minimal contents.contents contents.minimal)
 
 pub returns-clause-stale : goal.returns-clause-stale
 returns-clause-stale g c =
@@ -20,5 +20,5 @@ returns-clause-stale g c =
     let hinted = c.in_ok-hinted in
     let chosen = c.choose_sections-chosen.ensures in
     let contents = c.in_ok-bytes.ensures in
-    let form = is_form known c.args.options hinted.hinted.are_moved canonical.canonical.code canonical.canonical.bytes.items hinted.hinted.bytes.items c.choose_sections-chosen.result.items c.in_ok-bytes.bytes.items canonical.ensures.ok canonical.ensures.code hinted.ensures.hints hinted.ensures.minimal chosen.chosen chosen.minimal contents.contents contents.minimal in
+    let form = is_form known c.args.options hinted.hinted.are_moved canonical.canonical.has_moved canonical.canonical.code canonical.canonical.bytes.items hinted.hinted.bytes.items c.choose_sections-chosen.result.items c.in_ok-bytes.bytes.items canonical.ensures.ok canonical.ensures.code canonical.ensures.moved hinted.ensures.hints hinted.ensures.minimal chosen.chosen chosen.minimal contents.contents contents.minimal in
     names_of known c.args.options hinted.hinted.are_moved canonical.canonical.code canonical.canonical.bytes.items hinted.hinted.bytes.items c.choose_sections-chosen.result.items c.in_ok-bytes.bytes.items c.as_slice.result.now c.in_ok-stale.stale.items canonical.canonical.has_moved (not (nat_eq c.len.result c.len-len.result)) c.as_slice.ensures.value canonical.ensures.ok canonical.ensures.moved hinted.ensures.hints hinted.ensures.stays chosen.chosen contents.contents (λ stays. omega (arith, same_number c.len.result c.len-len.result stays, c.len.ensures, c.len-len.ensures)) form c.in_ok-stale.ensures
