@@ -23,7 +23,7 @@ class Call:
 
 # Calls that belong to no group, despite the beginnings of their names.
 ALONE = ("check_list_to_end", "check_order", "read_list_to_end", "read_strict", "rewrite_list_to_end", "rewrite_sized")
-GROUPED = re.compile(r"((?:nosgrivel_)?(?:read|normalise|rewrite|check|judge))_\w+?(_strict|_in_place)?$")
+GROUPED = re.compile(r"((?:nosgrivel_)?(?:read|normalise|rewrite_and_check|rewrite|check|judge))_\w+?(_strict|_in_place)?$")
 
 
 def without_colons(group):
@@ -82,7 +82,7 @@ PLUMBING = re.compile(r"""
     | ListMinimalIf | EncodedItems | EncodesList | EncodesSome | Gains\w+ | GivesItems | GoesOnWith | GivesSome
     | HasAlignment | HasNo\w*List | If\w+ | IsAligned | IsAnswer | IsBodyOf | IsBytes | IsCanonicalForm
     | IsCount | IsTypedSection | IsDelivery | IsEncoded | IsFull | IsCheckedInPlace | IsLawful | IsMemoryOrTooLong
-    | IsNameOf | IsReadError | IsReadFailure | IsRefusedList | IsSection | IsShort | IsShortEncoding
+    | HasCode | MovesHintsIf | TellsMoved | IsNameOf | IsReadError | IsReadFailure | IsRefusedList | IsSection | IsShort | IsShortEncoding
     | IsWithoutOffsets | LawfulItem | NormalForm | OfBoth | OfItems | OnceAllIsRead | OnlyTooLong | Reads | ReadsAll
     | Sees | TakesBytes | WritesGiven
 """, re.X)
@@ -156,7 +156,8 @@ def named_calls(calls, having):
 # Relations that say of one kind of thing what another says of all. They share its row.
 OF_ONE_KIND = {"IsSectionAfter": re.compile("IsTypeSection|IsCodeSection|IsSectionOfItems"),
                "Adds": re.compile(r"Adds(?!If|EachIf|Segment)\w+"), "AddsIf": re.compile("AddsSegment"),
-               "IsMinimal": re.compile(r"IsWritten\w+"), "CallExceeds": re.compile(r"(?!Call)\w+Exceeds?")}
+               "IsMinimal": re.compile(r"IsWritten\w+"), "IsObjectFile": re.compile("IsNoObjectFile"),
+               "MovesHints": re.compile("MovesInOneWay"), "CallExceeds": re.compile(r"(?!Call)\w+Exceeds?")}
 PREFIX_FREE = re.compile(r"No encoding of .* is a proper prefix of another.*")
 
 
@@ -167,7 +168,7 @@ def promise_table(interface):
     for definition, carried in found.values():
         of_all = next((name for name, kinds in OF_ONE_KIND.items() if kinds.fullmatch(definition.name)), None)
         if of_all in general:
-            general[of_all].update(carried)
+            join(general[of_all], carried)
         else:
             files.setdefault(definition.file, []).append((definition, carried))
     for file, cited in files.items():
@@ -176,10 +177,17 @@ def promise_table(interface):
             text = meaning(definition, said, len(carried))
             alike = merged.setdefault(text, ([], {}))
             alike[0].append(f"[`{definition.name}`]({os.path.relpath(file, PROMISES.parent)}#L{definition.line})")
-            alike[1].update(carried)
+            join(alike[1], carried)
         for text, (links, carried) in merged.items():
             rows.append(f"| {', '.join(links)} | {text} | {carriers(calls, carried)} |")
     return "\n".join(rows)
+
+
+def join(carried, more):
+    """Adds the calls that promise another relation to those of a row, with the names of their clauses."""
+    for name, (call, clauses) in more.items():
+        known = carried.setdefault(name, (call, []))[1]
+        known += [clause for clause in clauses if clause not in known]
 
 
 def meaning(definition, said, number):

@@ -198,6 +198,15 @@ pub fn rewrite_whole_module(bytes: Vec<u8>) -> Result<Vec<u8>, ReadError>
 }
 
 /// The minimal encoding of a module, and what the module was.
+///
+/// # Examples
+///
+/// ```
+/// # use wasm_encoder::sections::{CheckedModule, rewrite_and_check_whole_module};
+/// let module = Vec::from_slice(rt.alloc(), b"\0asm\x01\0\0\0")?;
+/// let CheckedModule { bytes, longer } = rewrite_and_check_whole_module(module)?;
+/// assert!(rt; bytes.len() == 8 && longer.is_none());
+/// ```
 #[derive(Debug, PartialEq, Eq, Drop)]
 pub struct CheckedModule {
     /// The minimal encoding.
@@ -243,8 +252,8 @@ pub fn rewrite_and_check_whole_module(bytes: Vec<u8>) -> Result<CheckedModule, D
     }
 }
 
-/// Replaces a module by its minimal encoding in place, as [`rewrite_and_check_whole_module`] does. The minimal encoding begins the
-/// slice.
+/// Replaces a module by its minimal encoding in place, as [`rewrite_and_check_whole_module`] does. The minimal encoding
+/// begins the slice.
 ///
 /// If it fails, the bytes are unspecified. Allocates nothing.
 ///

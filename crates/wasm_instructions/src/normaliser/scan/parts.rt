@@ -1,5 +1,5 @@
-//! Scanning of parts of rare instructions: lists of types, block types, memory arguments, and the clauses of `try_table` (Core
-//! 3.0, Instructions).
+//! Scanning of parts of rare instructions: lists of types, block types, memory arguments, and the clauses of `try_table`
+//! (Core 3.0, Instructions).
 ghost use Rattle.std.specs.Prelude.{Some, IfSome};
 ghost use Rattle.wasm_codec.specs.Scanning.{Scans};
 ghost use Rattle.wasm_codec.specs.declared.rewriter.scan.Scanned.TheVariants.{Minimal};
