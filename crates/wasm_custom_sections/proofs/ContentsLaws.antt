@@ -29,7 +29,7 @@ use Rattle.wasm_sections.specs.formats.Sections.{custom_body}
 use Rattle.wasm_sections.proofs.CustomLaws.{custom_is_lawful}
 use Rattle.wasm_sections.proofs.ModuleSectionLaws.{custom_kind, module_section_is_lawful}
 use Rattle.wasm_sections.proofs.RawSections.{raw_sections, whole_again}
-use Rattle.wasm_custom_sections.specs.MinimalContents.{AreMinimised, none, more, DecodesNext, HasContents, HasMinimalContents, IsDecodedAs, IsMinimised, Minimises, MinimisesContents, MinimisesNext, WritesNext, section_with, Minimising, MinimisesSoFar}
+use Rattle.wasm_custom_sections.specs.MinimalContents.{AreMinimised, none, more, DecodesNext, HasContents, HasMinimalContents, IsDecodedAs, IsMinimised, Minimises, MinimisesContents, MinimisesNext, WritesNext, section_with, MinimisesSoFar}
 use Rattle.wasm_custom_sections.specs.NamedSections.{named}
 use Rattle.wasm_custom_sections.specs.declared.contents.Decoded.{Decoded}
 use Rattle.wasm_custom_sections.specs.declared.contents.Decoded.TheVariants as decoded

@@ -1,5 +1,5 @@
 -- A minimally encoded module whose contents are minimally encoded stays as it is when they are minimised.
-use Rattle.std.proofs.Common.{◌≡◌, ◌∙◌, ℕ, inl, inr, List, [], ◌∷◌, length, Option, Some, None, Result, Ok, Err, IfOk, refl, sym, ap, subst}
+use Rattle.std.proofs.Common.{◌≡◌, ◌∙◌, ℕ, inl, inr, List, ◌∷◌, length, Option, Some, None, Result, Ok, Err, IfOk, refl, sym, ap, subst}
 use Rattle.std.specs.List.{AllByRecursion}
 use Rattle.std.specs.Prelude.{codes, IfNone, IfSome}
 use Rattle.wasm_codec.specs.Lawful.{IsLawfulBody}
@@ -15,7 +15,7 @@ use Rattle.wasm_sections.specs.formats.Sections.{custom_body}
 use Rattle.wasm_sections.proofs.CustomLaws.{custom_is_lawful}
 use Rattle.wasm_sections.proofs.RawSections.{custom_minimal, raw_sections}
 use Rattle.wasm_custom_sections.specs.LongerContents.{HasLongerContents, IsLongerIn, IsLongerInside, IsMinimalIn, IsMinimalInside, IsWritten}
-use Rattle.wasm_custom_sections.specs.MinimalContents.{AreMinimised, none, more, HasContents, HasNames, HasProducers, IsDecodedAs, IsMinimised, Minimises, MinimisesContents}
+use Rattle.wasm_custom_sections.specs.MinimalContents.{AreMinimised, none, more, HasContents, IsDecodedAs, IsMinimised, Minimises, MinimisesContents}
 use Rattle.wasm_custom_sections.specs.NamedSections.{named}
 use Rattle.wasm_custom_sections.specs.declared.contents.Decoded.TheVariants as decoded
 use Rattle.wasm_custom_sections.specs.formats.Names.{name_data}

@@ -1,15 +1,12 @@
 -- Parts of rare instructions, seen at once to be in their minimal encodings.
-use Rattle.std.proofs.Common.{◌≡◌, ◌⊎◌, ℕ, zero, suc, ◌+◌, ◌-◌, ◌*◌, ◌%◌, ◌/◌, ◌^◌, ◌<◌, ◌≤◌, Bool, true, false, eqb, List, [], ◌∷◌, length, get_or, take, drop, drop-drop, length-drop, Option, Some, None, IfSome, refl, sym, ap, subst, ◌∙◌, inl, inr, arith}
+use Rattle.std.proofs.Common.{◌≡◌, ℕ, zero, suc, ◌+◌, ◌-◌, ◌<◌, ◌≤◌, true, false, eqb, List, [], ◌∷◌, length, get_or, take, drop, drop-drop, length-drop, Option, Some, None, IfSome, refl, sym, ap, subst, ◌∙◌, arith}
 use Rattle.std.proofs.Math.Bool.{and-false}
-use Rattle.std.proofs.lemmas.Bool.{lt-ltb, le-ltb, le-leb, lt-leb, ne_eqb, cases_lt}
-use Rattle.wasm_codec.specs.Places.{Place, place, byte_at, index_at, times_at, raw_at}
-use Rattle.wasm_codec.specs.Leb128.{digits_at, digits_of, signed_leb128}
+use Rattle.std.proofs.lemmas.Bool.{lt-ltb, le-ltb, lt-leb, ne_eqb}
+use Rattle.wasm_codec.specs.Places.{place, byte_at, times_at, raw_at}
 use Rattle.wasm_codec.specs.Scanning.{BeginsItems, ReadsShort, Scans}
 use Rattle.wasm_codec.specs.declared.rewriter.scan.Scanned.TheVariants.{Minimal}
 use Rattle.wasm_codec.specs.formats.Combinators.{Format, a_byte, ◌⊗◌, begins_index, index, items, little_endian, u32, u64}
-use Rattle.wasm_codec.proofs.NumberReading.{u32_one, index_low, index_high}
-use Rattle.wasm_types.specs.declared.types.heap.HeapType.TheVariants.{Concrete}
-use Rattle.wasm_types.specs.declared.types.value.ValType.TheVariants as values
+use Rattle.wasm_codec.proofs.NumberReading.{u32_one}
 use Rattle.wasm_types.specs.formats.Types.{heap_type, val_type}
 use Rattle.wasm_types.proofs.ScannedValTypes.{begins, no_index}
 use Rattle.wasm_instructions.specs.declared.operands.control.BlockType.TheVariants as blocks

@@ -1,11 +1,10 @@
 -- Bodies that encode no value, at their offset in an input.
-use Rattle.std.proofs.Common.{◌≡◌, ◌∙◌, ℕ, ◌+◌, ◌-◌, Bool, List, Result, Ok, Err, sym, subst, arith}
+use Rattle.std.proofs.Common.{◌≡◌, ℕ, ◌+◌, ◌-◌, Bool, List, Result, Err, sym, subst, arith}
 use Rattle.wasm_codec.specs.Decoding.{ReadsAll}
 use Rattle.wasm_codec.specs.Outcomes.{HoldsAtRefusal, IsLongestPrefix, as_read, read_error_of}
 use Rattle.wasm_codec.specs.declared.reader.DecodeError.{DecodeError}
 use Rattle.wasm_codec.specs.declared.reader.DecodeError.TheVariants as decode_errors
 use Rattle.wasm_codec.specs.declared.reader.ReadError.{ReadError}
-use Rattle.wasm_codec.specs.declared.reader.ReadError.TheVariants as read_errors
 use Rattle.wasm_codec.specs.formats.Combinators.{Format, minimal_if}
 use Rattle.wasm_lists.specs.ItemReading.{shifted}
 use Rattle.wasm_code.specs.DecodedPrefixes.{IsNothingOr}

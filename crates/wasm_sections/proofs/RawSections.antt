@@ -3,7 +3,7 @@ use Rattle.std.proofs.Common.{◌≡◌, ◌∙◌, ℕ, suc, ◌<◌, ◌^◌, 
 use Rattle.std.specs.List.{AllByRecursion, flat_map}
 use Rattle.wasm_codec.specs.Leb128.{unsigned_leb128}
 use Rattle.wasm_codec.specs.Outcomes.{EncodesSome, IsNormalForm}
-use Rattle.wasm_codec.specs.formats.Bodies.{byte_list, sized}
+use Rattle.wasm_codec.specs.formats.Bodies.{byte_list}
 use Rattle.wasm_codec.specs.formats.Combinators.{Format, minimal_only}
 use Rattle.wasm_codec.specs.formats.Grammar.{IsBytes, Joined}
 use Rattle.wasm_codec.proofs.BodyLaws.{Lawful-body, encodes_one}

@@ -1,4 +1,4 @@
-use Rattle.std.proofs.Common.{Ok, Err, refl, arith, ap}
+use Rattle.std.proofs.Common.{arith, ap}
 use Rattle.wasm_codec.specs.Outcomes.{as_read, read_error_of}
 use Rattle.wasm_codec.proofs.DecodingLaws.{refused_vector, rewritten_vector}
 use Rattle.wasm_code.proofs.decode.rewrite.Goals as goal

@@ -8,7 +8,7 @@ use Rattle.wasm_codec.proofs.RefusalNumbers.{stops_at}
 use Rattle.wasm_lists.specs.Longer.{CountsFirst, TellsFirst}
 use Rattle.wasm_code.proofs.SectionStops.{counts_none, counts_sections, names_item, names_none, numbers_first}
 use Rattle.wasm_code.specs.formats.Sections.{header}
-use Rattle.wasm_code.proofs.ModuleFormatLaws.{after_header_is, headed_normal, HeadedRefused, headed_refused, headless}
+use Rattle.wasm_code.proofs.ModuleFormatLaws.{after_header_is, headed_normal, headed_refused, headless}
 use Rattle.wasm_code.proofs.CheckedModules.{checked_module}
 use Rattle.wasm_code.proofs.longer.checked_module_of.Goals as goal
 

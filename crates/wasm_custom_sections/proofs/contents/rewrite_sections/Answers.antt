@@ -1,4 +1,4 @@
-use Rattle.std.proofs.Common.{◌≡◌, ◌∙◌, ◌<◌, length, refl, Err, subst, arith}
+use Rattle.std.proofs.Common.{◌∙◌, ◌<◌, length, refl, Err, subst, arith}
 use Rattle.std.proofs.lemmas.List.{nil_from_length}
 use Rattle.wasm_codec.specs.declared.reader.cursor.Fault.{Fault}
 use Rattle.wasm_custom_sections.specs.MinimalContents.{MinimisesNext}

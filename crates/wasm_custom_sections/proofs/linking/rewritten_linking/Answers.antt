@@ -1,4 +1,4 @@
-use Rattle.std.proofs.Common.{◌≡◌, [], true, ap, ◌∙◌, sym}
+use Rattle.std.proofs.Common.{[], true, ap, ◌∙◌, sym}
 use Rattle.wasm_codec.specs.Places.{place}
 use Rattle.wasm_codec.specs.Rewriter.{Rest, Rewriting, rest_of, rewriting}
 use Rattle.wasm_custom_sections.proofs.linking.rewritten_linking.Goals as goal

@@ -1,4 +1,4 @@
-use Rattle.std.proofs.Common.{◌∙◌, Option, Some, ap, subst}
+use Rattle.std.proofs.Common.{◌∙◌, Some, ap, subst}
 use Rattle.wasm_code.specs.formats.Sections.{parts_of}
 use Rattle.wasm_sections.specs.formats.EntryParts.{custom_parts}
 use Rattle.wasm_custom_sections.specs.MinimalContents.{IsDecodedAs}

@@ -1,4 +1,4 @@
-use Rattle.std.proofs.Common.{rules, ◌+◌, ◌-◌, ◌<◌, ◌≡◌, List, ℕ, Option, length, length-append, ap, sym, subst, arith}
+use Rattle.std.proofs.Common.{rules, ◌+◌, ◌-◌, ◌<◌, ◌≡◌, ℕ, Option, length, length-append, ap, sym, subst, arith}
 use Rattle.std.specs.Prelude.{IfSome}
 use Rattle.std.proofs.lemmas.List.{nil_from_length}
 use Rattle.wasm_codec.specs.Places.{Place}

@@ -1,4 +1,4 @@
-use Rattle.std.proofs.Common.{◌≡◌, ◌∙◌, ◌-◌, ◌<◌, ℕ, List, length, refl, sym, ap, subst, arith}
+use Rattle.std.proofs.Common.{◌∙◌, ◌-◌, ◌<◌, ℕ, List, length, refl, sym, ap, subst, arith}
 use Rattle.std.proofs.lemmas.List.{nil_from_length}
 use Rattle.wasm_codec.specs.Rewriter.{Rewriting}
 use Rattle.wasm_codec.proofs.RewriterLaws.{is_after}

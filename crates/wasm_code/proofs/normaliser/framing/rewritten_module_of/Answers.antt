@@ -1,5 +1,5 @@
 use Rattle.wasm_codec.proofs.DecodingLaws.{error_is}
-use Rattle.std.proofs.Common.{◌≡◌, ◌-◌, ◌++◌, ℕ, List, IfSome, length, refl, ap, ◌∙◌, subst}
+use Rattle.std.proofs.Common.{◌≡◌, ◌-◌, ◌++◌, ℕ, List, length, ap, ◌∙◌, subst}
 use Rattle.wasm_codec.specs.Rewriter.{Rest, Rewriting, CountsPassed, StopsBehind, StopsInItem, skipped}
 use Rattle.wasm_codec.specs.Outcomes.{error_of, read_error_of}
 use Rattle.wasm_codec.proofs.RefusalNumbers.{stops_at}
@@ -7,7 +7,7 @@ use Rattle.wasm_codec.proofs.RewriterLaws.{is_after}
 use Rattle.wasm_codec.specs.formats.Bodies.{to_end}
 use Rattle.wasm_code.proofs.SectionStops.{counts_none, counts_sections, names_item, names_none}
 use Rattle.wasm_code.specs.formats.Sections.{header}
-use Rattle.wasm_code.proofs.ModuleFormatLaws.{after_header_is, headed_normal, HeadedRefused, headed_refused, headless}
+use Rattle.wasm_code.proofs.ModuleFormatLaws.{after_header_is, headed_normal, headed_refused, headless}
 use Rattle.wasm_code.proofs.normaliser.framing.rewritten_module_of.Goals as goal
 
 pub returns-in-Ok-clause-rewrites : goal.returns-in-Ok-clause-rewrites
