@@ -21,7 +21,7 @@ use Rattle.wasm_modules.specs.Selections.{IsChosen}
 use Rattle.wasm_modules.specs.declared.order.ModuleError.{ModuleError}
 use Rattle.wasm_modules.specs.ModuleOrder.{OfModule, IsWhyNot}
 use Rattle.wasm_modules.specs.ModuleOrder as order
-use Rattle.wasmcanon.specs.Run.{Accepts, HasCode, HasContents, HasHints, IsCanonicalForm, IsForm, IsFormWith, IsLonger, IsReadFailure, Judges, MovesHintsIf, TellsMoved}
+use Rattle.wasmcanon.specs.Run.{Accepts, HasCode, HasContents, HasHints, IsCanonicalForm, IsForm, IsFormWith, IsLonger, IsReadFailure, IsVerdictOn, MovesHintsIf, TellsMoved}
 use Rattle.wasmcanon.specs.declared.order.MisplacedSection.{MisplacedSection}
 use Rattle.wasmcanon.specs.declared.run.FormOptions.{FormOptions}
 use Rattle.wasmcanon.specs.declared.run.Verdict.{Verdict}
@@ -31,27 +31,27 @@ use Rattle.wasmcanon.specs.declared.run.Verdict.TheVariants as verdicts
 
 -- ---- the verdict on a module
 
--- a module that was minimally encoded is its own canonical form, and it stays: its contents are judged in the new bytes
-pub contents_judged : (names : Bool) (input : List ℕ) (bytes : Vec ℕ) (verdict : Verdict) → NormalisesInPlace whole_module (IsModulePrefixOf module_section) input (Ok bytes) → Checks whole_module MinimalWholeModule (IsModulePrefixOf (minimal_only module_section)) input (Ok tt) → (IsCanonicalForm bytes.items bytes.items → Judges names bytes.items verdict) → Judges names input verdict
-contents_judged names input bytes verdict form check judges =
+-- a module that was minimally encoded is its own canonical form, and it stays: its contents are checked in the new bytes
+pub contents_checked : (names : Bool) (input : List ℕ) (bytes : Vec ℕ) (verdict : Verdict) → NormalisesInPlace whole_module (IsModulePrefixOf module_section) input (Ok bytes) → Checks whole_module MinimalWholeModule (IsModulePrefixOf (minimal_only module_section)) input (Ok tt) → (IsCanonicalForm bytes.items bytes.items → IsVerdictOn names bytes.items verdict) → IsVerdictOn names input verdict
+contents_checked names input bytes verdict form check is_verdict =
     let value = check.given.0 in
     let minimal = (check.minimal value).0 check.given.1 in
     let stays = form.complete value minimal.0 ∙ sym minimal.1 in
     let canonical : IsCanonicalForm input input = record { value = value; encoded = minimal.0; is_minimal = minimal.1 } in
-    subst (λ (b : List ℕ). Judges names b verdict) stays (judges (subst (λ (b : List ℕ). IsCanonicalForm b b) (sym stays) canonical))
+    subst (λ (b : List ℕ). IsVerdictOn names b verdict) stays (is_verdict (subst (λ (b : List ℕ). IsCanonicalForm b b) (sym stays) canonical))
 
 -- a module in which a part is longer isn't canonical, whatever its contents are
-pub longer_judged : (names : Bool) (input : List ℕ) (bytes : Vec ℕ) (refusal : Refusal) → NormalisesInPlace whole_module (IsModulePrefixOf module_section) input (Ok bytes) → Checks whole_module MinimalWholeModule (IsModulePrefixOf (minimal_only module_section)) input (verdict_of (Some refusal)) → Judges names input (verdicts.Longer refusal)
-longer_judged names input bytes refusal form check = by names where
+pub longer_checked : (names : Bool) (input : List ℕ) (bytes : Vec ℕ) (refusal : Refusal) → NormalisesInPlace whole_module (IsModulePrefixOf module_section) input (Ok bytes) → Checks whole_module MinimalWholeModule (IsModulePrefixOf (minimal_only module_section)) input (verdict_of (Some refusal)) → IsVerdictOn names input (verdicts.Longer refusal)
+longer_checked names input bytes refusal form check = by names where
   longer : IsLonger input refusal.at
   longer = ((λ same. check.unencoded same.value ((check.minimal same.value).1 (same.encoded, same.is_minimal))), check.prefix)
 
-  by : (names : Bool) → Judges names input (verdicts.Longer refusal)
+  by : (names : Bool) → IsVerdictOn names input (verdicts.Longer refusal)
   by false = ((form.given.value, form.given.encoded), longer)
   by true = ((form.given.value, form.given.encoded), inl longer)
 
 -- a canonical module whose contents are longer
-pub longer_contents : (names : Bool) (input : List ℕ) (refusal : Refusal) → names ≡ true → HasLongerContents input → (EncodesSome MinimalWholeModule input → IsFirstLonger input refusal.at) → IsCanonicalForm input input → Judges names input (verdicts.Longer refusal)
+pub longer_contents : (names : Bool) (input : List ℕ) (refusal : Refusal) → names ≡ true → HasLongerContents input → (EncodesSome MinimalWholeModule input → IsFirstLonger input refusal.at) → IsCanonicalForm input input → IsVerdictOn names input (verdicts.Longer refusal)
 longer_contents false input refusal is longer first canonical = absurd (true≢false (sym is))
 longer_contents true input refusal is longer first canonical = ((canonical.value, canonical.encoded), inr (canonical, longer, first (normal_minimal input input canonical)))
 

@@ -124,11 +124,11 @@ IsLonger input at = (IsCanonicalForm input input → ⊥) × IsLongestPrefix (Is
 
 -- The verdict is right: the input is canonical, or its longest canonical prefix ends at this offset. With `names`, its
 -- contents are minimal too, or the input is canonical, and the first section whose contents aren't begins there.
-abbrev pub Judges : Bool → List ℕ → Verdict → Type 0
-Judges false input verdicts.Canonical = IsCanonicalForm input input
-Judges true input verdicts.Canonical = IsCanonicalForm input input × HasMinimalContents input
-Judges false input (verdicts.Longer refusal) = IsModule input × IsLonger input refusal.at
-Judges true input (verdicts.Longer refusal) = IsModule input × (IsLonger input refusal.at ⊎ (IsCanonicalForm input input × HasLongerContents input × IsFirstLonger input refusal.at))
+abbrev pub IsVerdictOn : Bool → List ℕ → Verdict → Type 0
+IsVerdictOn false input verdicts.Canonical = IsCanonicalForm input input
+IsVerdictOn true input verdicts.Canonical = IsCanonicalForm input input × HasMinimalContents input
+IsVerdictOn false input (verdicts.Longer refusal) = IsModule input × IsLonger input refusal.at
+IsVerdictOn true input (verdicts.Longer refusal) = IsModule input × (IsLonger input refusal.at ⊎ (IsCanonicalForm input input × HasLongerContents input × IsFirstLonger input refusal.at))
 
 -- ---- results
 

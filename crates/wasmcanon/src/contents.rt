@@ -1,7 +1,7 @@
 //! The contents of the custom sections `name` and `producers`, which `--names` puts into their minimal encoding too.
 ghost use Rattle.std.specs.Prelude.{IfOk};
 ghost use Rattle.wasm_sections.specs.formats.ModuleSections.{KeepsMinimal};
-ghost use Rattle.wasmcanon.specs.Run.{HasContents, IsCanonicalForm, Judges};
+ghost use Rattle.wasmcanon.specs.Run.{HasContents, IsCanonicalForm, IsVerdictOn};
 
 use crate::run::Verdict;
 use std::alloc::{AllocError, Global};
@@ -27,8 +27,8 @@ pub fn with_contents(alloc: Global, bytes: Vec<u8>, names: bool) -> Result<Vec<u
 ///
 /// Fails if memory runs out.
 #[tactic(auto, using(crate::proofs::ResultLaws::longer_contents))]
-pub fn judge_contents(alloc: Global, input: &[u8], names: bool) -> Result<Verdict, AllocError>
-    ensures { IfOk result (λ verdict. IsCanonicalForm input.now input.now → Judges names input.now verdict) }
+pub fn verdict_on_contents(alloc: Global, input: &[u8], names: bool) -> Result<Verdict, AllocError>
+    ensures { IfOk result (λ verdict. IsCanonicalForm input.now input.now → IsVerdictOn names input.now verdict) }
 {
     if !names {
         return Ok(Verdict::Canonical);

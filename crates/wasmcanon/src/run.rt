@@ -5,11 +5,11 @@ ghost use Rattle.wasm_sections.specs.formats.ModuleSections.{module_section};
 ghost use Rattle.wasm_modules.specs.Counting.{ShowsModule};
 ghost use Rattle.wasm_modules.specs.RefusalNumbers.{CountsParts};
 ghost use Rattle.wasmcanon.specs.Objects.{IsObjectFile, IsNoObjectFile};
-ghost use Rattle.wasmcanon.specs.Run.{Accepts, FormIs, HasCode, HasOneForm, TellsMoved, IsModule, IsCanonicalForm, AppendsBeginning, AppendsForm, IsForm, IsHash, IfObjectFile, IfPlaced, IfWriteFailed, NeverWrites, OnceAllIsRead, BeforeAnyWrite, IsReadFailure, Judges, outcome_of, status_of};
+ghost use Rattle.wasmcanon.specs.Run.{Accepts, FormIs, HasCode, HasOneForm, TellsMoved, IsModule, IsCanonicalForm, AppendsBeginning, AppendsForm, IsForm, IsHash, IfObjectFile, IfPlaced, IfWriteFailed, NeverWrites, OnceAllIsRead, BeforeAnyWrite, IsReadFailure, IsVerdictOn, outcome_of, status_of};
 ghost use Rattle.wasmcanon.specs.StaleSections.{NamesStale};
 ghost use Rattle.wasmcanon.specs.declared.run.Failure.TheVariants.{Memory};
 
-use crate::contents::{judge_contents, with_contents};
+use crate::contents::{verdict_on_contents, with_contents};
 use crate::hints::with_hints;
 use crate::objects::is_object_file;
 use crate::offsets::stale_names;
@@ -332,7 +332,7 @@ pub fn check<R: Input>(
     names: bool,
 ) -> Result<Verdict, Failure>
     // The verdict is right.
-    ensures ok { IfOk result (λ verdict. IfSome (R.remaining reader.old) (λ input. Judges names input verdict)) }
+    ensures ok { IfOk result (λ verdict. IfSome (R.remaining reader.old) (λ input. IsVerdictOn names input verdict)) }
     // A refused input is malformed, and unless any order is allowed, the sections of an accepted one are in order.
     ensures accepts { IfSome (R.remaining reader.old) (λ input. Accepts any_order input (outcome_of result)) }
     // The section and the item that it names are numbered by those before them.
@@ -341,7 +341,7 @@ pub fn check<R: Input>(
 {
     let input = read_all(alloc, reader)?;
     let order = check_order_unless(alloc, &input, any_order);
-    let verdict = judge(alloc, input, names)?;
+    let verdict = verdict_on(alloc, input, names)?;
     order?;
     Ok(verdict)
 }
@@ -395,17 +395,17 @@ fn check_order_unless(alloc: Global, input: &[u8], any_order: bool) -> Result<()
 
 /// Checks whether a module is its own canonical form, with `names` down to the contents of `name` and `producers`.
 /// Rewrites it in place.
-#[tactic(auto, using(crate::proofs::ResultLaws::contents_judged, crate::proofs::ResultLaws::longer_judged, crate::proofs::ResultLaws::placed))]
-fn judge(alloc: Global, input: Vec<u8>, names: bool) -> Result<Verdict, Failure>
-    ensures ok { IfOk result (Judges names input.items) }
+#[tactic(auto, using(crate::proofs::ResultLaws::contents_checked, crate::proofs::ResultLaws::longer_checked, crate::proofs::ResultLaws::placed))]
+fn verdict_on(alloc: Global, input: Vec<u8>, names: bool) -> Result<Verdict, Failure>
+    ensures ok { IfOk result (IsVerdictOn names input.items) }
     ensures accepts { Accepts true input.items (outcome_of result) }
     ensures numbers { IfPlaced result (CountsParts module_section input.items) }
 {
     match rewrite_and_check_whole_module(input) {
-        Ok(judged) => match judged.longer {
+        Ok(checked) => match checked.longer {
             None => {
                 // The module is unchanged.
-                let verdict = judge_contents(alloc, &judged.bytes, names)?;
+                let verdict = verdict_on_contents(alloc, &checked.bytes, names)?;
                 Ok(verdict)
             }
             Some(refusal) => Ok(Verdict::Longer(refusal)),
