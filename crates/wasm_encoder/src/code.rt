@@ -82,7 +82,7 @@ impl Function {
     /// build all bodies of a section. `locals` are groups as for [`Function::new`].
     ///
     /// Fails with `TooLong` if there are more than 4,294,967,295 groups, before it asks for one, and with `Memory` if
-    /// the function can't grow.
+    /// the function can't grow. On error the function is unchanged.
     ///
     /// # Examples
     ///

@@ -27,13 +27,13 @@ use Rattle.wasm_lists.specs.ItemReading.{BeginsWithNone, EncodesNoList, GivesNex
 -- ---- one item
 
 -- an item that was read, and minimally if only minimal encodings are read
-pub read_minimally : {V : Type 0} (F : Format V) (strict : Bool) (here next : Place) (v : V) → WasMinimalIf strict here → F.at here ≡ Some (v, next) → WasMinimalIf strict next → (minimal_if strict F).at here ≡ Some (v, next)
+read_minimally : {V : Type 0} (F : Format V) (strict : Bool) (here next : Place) (v : V) → WasMinimalIf strict here → F.at here ≡ Some (v, next) → WasMinimalIf strict next → (minimal_if strict F).at here ≡ Some (v, next)
 read_minimally {V} F true here next v was e minimal =
     let from : place true here.left ≡ here = ap (λ (m : Bool). place m here.left) (sym was) in
     ap (λ (p : Place). F.at p >>= λ x. only_minimal here.minimal x) from ∙ ap (λ (o : Option (V × Place)). o >>= λ x. only_minimal here.minimal x) e ∙ rw minimal (ap (λ (m : Bool). Some (v, place m next.left)) was)
 read_minimally F false here next v was e minimal = e
 
-pub some_minimally : {V : Type 0} (F : Format V) (strict : Bool) → TakesBytes F.Encodes → TakesBytes (minimal_if strict F).Encodes
+some_minimally : {V : Type 0} (F : Format V) (strict : Bool) → TakesBytes F.Encodes → TakesBytes (minimal_if strict F).Encodes
 some_minimally F true some v e = some v e.0
 some_minimally F false some v e = some v e
 
@@ -108,6 +108,13 @@ pub nothing_begins : {V : Type 0} {F : Format V} → IsLawful F → (here : Plac
 nothing_begins {V} {F} r here none v rest begins =
     let found = r.reads.complete begins.prefix v rest here.minimal begins.encodes in
     unlike (F.at here) (v, place (keeps here.minimal begins.prefix (F.bytes v)) rest) none (ap (λ (l : List ℕ). F.at (place here.minimal l)) begins.parts ∙ found)
+
+-- an item is given that was read in any encoding, and is minimal if only minimal encodings are read
+pub one_read : {V : Type 0} {F : Format V} → IsLawful F → TakesBytes F.Encodes → (start len : ℕ) (here next : Place) (count : Option ℕ) (passed after : ℕ) (strict : Bool) (v : V) → IsBytes here.left → length here.left ≤ len
+    → IsNotLast count passed → (passed + 1 < 2 ^ 32 → after ≡ passed + 1) → WasMinimalIf strict here → F.at here ≡ Some (v, next) → WasMinimalIf strict next
+    → GivenOne (minimal_if strict F).Encodes (reading_of start len here count passed strict false) (start + (len - length here.left)) v (reading_of start len next count after strict false)
+one_read {V} {F} r takes start len here next count passed after strict v fits le some is was e minimal =
+    one_given (Lawful-minimal_if strict r) (some_minimally F strict takes) start len here next count passed after strict v fits le some is (read_minimally F strict here next v was e minimal)
 
 pub one_failed : {V : Type 0} {F : Format V} → IsLawful F → (start len : ℕ) (here new next : Place) (count : Option ℕ) (passed : ℕ) (strict : Bool) (fault : Fault) (error : DecodeError)
     → HasMore (option_map (λ c. c - passed) count) here.left → Reads F.at here new (Err fault) → read_error_of error ≡ shifted start (error_of fault (len - length here.left))
