@@ -3,7 +3,9 @@
 use super::is;
 use std::alloc::Global;
 use std::test::Fail;
-use wasm_encoder::{HintedCode, WholeModule, rewrite};
+use wasm_encoder::{
+    BranchHint, BranchHints, CodeSection, HintedCode, Module, WholeModule, rewrite,
+};
 
 // a type, an imported function, two functions
 const SECTIONS: &str = "0061736D010000000104016000000207010161016200000303020000";
@@ -13,6 +15,30 @@ const NAME: &str = "196D657461646174612E636F64652E6272616E63685F68696E74";
 const CODE: &str = "0A170212018180007F2080800004400B2080000D000B02000B";
 
 const MINIMAL: &str = "0A12020D01017F200004400B20000D000B02000B";
+
+/// How often the instructions of a long function are repeated.
+const TIMES: u32 = 1_000;
+
+/// The bytes of a long function: its locals, and instructions that are repeated.
+struct Encoding {
+    locals: &'static [u8],
+    /// `local.get 0`, `br_if 0` and `nop`.
+    instructions: &'static [u8],
+    /// Offset of `br_if` in them.
+    branch: u32,
+}
+
+const LONG_PADDED: Encoding = Encoding {
+    locals: b"\x01\x81\x00\x7f",
+    instructions: b"\x20\x80\x80\x80\x80\x00\x0d\x80\x00\x01",
+    branch: 6,
+};
+
+const LONG_MINIMAL: Encoding = Encoding {
+    locals: b"\x01\x01\x7f",
+    instructions: b"\x20\x00\x0d\x00\x01",
+    branch: 2,
+};
 
 /// A module with these contents of its section of hints, and this code section.
 fn module(alloc: Global, size: &str, hints: &str, code: &str) -> Result<Vec<u8>, Fail> {
@@ -56,6 +82,55 @@ fn hints_in_descending_order_move(rt: HostRuntime) -> Result<(), Fail> {
     };
     let expected = format!(in alloc; "{SECTIONS}0023{NAME}0101020A0101050100{MINIMAL}")?;
     is(alloc, moved.as_slice(), expected.as_str())
+}
+
+/// A hint for each `br_if` of the long function. With each, its number grows by `step`, modulo their number.
+fn branch_hints(alloc: Global, encoding: &Encoding, step: u32) -> Result<Vec<BranchHint>, Fail> {
+    let first = u32::try_from(encoding.locals.len())?.wrapping_add(encoding.branch);
+    let len = u32::try_from(encoding.instructions.len())?;
+    let mut hints = Vec::new(alloc);
+    for count in 0..TIMES {
+        let number = count.wrapping_mul(step) % TIMES;
+        hints.push(BranchHint {
+            branch_func_offset: first.wrapping_add(number.wrapping_mul(len)),
+            likely: number % 3 == 0,
+        })?;
+    }
+    Ok(hints)
+}
+
+/// A module of the long function and these hints.
+fn long_module(alloc: Global, encoding: &Encoding, step: u32) -> Result<Vec<u8>, Fail> {
+    let mut body = encoding.locals.to_vec(alloc)?;
+    for _ in 0..TIMES {
+        body.extend_from_slice(encoding.instructions)?;
+    }
+    body.push(0x0b)?;
+    let mut hints = BranchHints::new(alloc);
+    hints.function_hints(0, branch_hints(alloc, encoding, step)?.as_slice())?;
+    let mut code = CodeSection::new(alloc);
+    code.raw(body.as_slice())?;
+    let mut module = Module::new(alloc)?;
+    module.section(&hints)?;
+    module.section(&code)?;
+    Ok(module.finish())
+}
+
+/// Hints ascend, descend, jump, and alternate between two branches.
+#[test]
+fn hints_of_a_long_function_move(rt: HostRuntime) -> Result<(), Fail> {
+    let alloc = rt.alloc();
+    for step in [1, 999, 389, 500] {
+        let module = long_module(alloc, &LONG_PADDED, step)?;
+        let Some(code) = HintedCode::of_module(alloc, &module)? else {
+            return Err(Fail::from("no code"));
+        };
+        let minimal = rewrite::<WholeModule>(module)?;
+        let moved = code.move_hints(alloc, &minimal)?;
+        let expected = long_module(alloc, &LONG_MINIMAL, step)?;
+        assert!(rt; moved == Some(expected));
+    }
+    Ok(())
 }
 
 #[test]

@@ -1,15 +1,20 @@
 //! Offsets of instructions in the body of a function, and in the body's minimal encoding.
-ghost use Rattle.std.specs.Prelude.{◌≤◌, ℕ, List, IfOk, IfSome, IfNone};
+ghost use Rattle.std.specs.Prelude.{◌≤◌, ℕ, List, All, IfOk, IfSome, IfNone};
 ghost use Rattle.wasm_custom_sections.specs.MovedOffsets.{AreLocals, Each, IsFront, IsFrontUpTo, MovesHint, NoInstructionAt};
 ghost use Rattle.wasm_custom_sections.specs.declared.branch_hints.BranchHint.{BranchHint};
 
 use crate::branch_hints::BranchHint;
 use std::alloc::{AllocError, Global};
 use wasm_code::code::normaliser::rewrite_locals;
-use wasm_codec::reader::ReadError;
+use wasm_codec::reader::{DecodeError, ReadError};
 use wasm_codec::rewriter::Rewriter;
 use wasm_instructions::normaliser::normalise_instructions;
+use wasm_instructions::table::Call;
+use wasm_lists::item_reader::ItemReader;
 use wasm_lists::list::Items;
+
+/// Least number of bytes between two checkpoints.
+const CHECKPOINT_DISTANCE: usize = 256;
 
 /// The first bytes of a function's body: its locals, and some of its instructions.
 #[derive(Clone, Copy)]
@@ -38,9 +43,16 @@ pub(crate) fn moved_hints(
     let Some(locals) = locals_of(alloc, body)? else {
         return Ok(None);
     };
+    let mut checkpoints = Vec::new(alloc);
     let mut front = locals;
     for hint in hints {
-        let Some(next) = front_up_to(alloc, body, locals, front, hint.branch_func_offset)? else {
+        let offset = hint.branch_func_offset;
+        // Hints that don't ascend go on after checkpoints: after the locals they would take quadratic time.
+        if (offset as usize) < front.len && checkpoints.is_empty() {
+            checkpoints = checkpoints_of(alloc, body, locals)?;
+        }
+        let start = nearest_front(checkpoints.as_slice(), front, offset);
+        let Some(next) = front_up_to(alloc, body, locals, start, offset)? else {
             return Ok(None);
         };
         let Ok(branch_func_offset) = u32::try_from(next.minimal) else {
@@ -72,6 +84,53 @@ fn locals_of(alloc: Global, body: &[u8]) -> Result<Option<Front>, AllocError>
     }
 }
 
+/// Returns fronts of a body in ascending order. The first is the locals. Each other one ends at the first instruction
+/// that begins at least 256 bytes after the one before.
+///
+/// The list ends before a malformed instruction. Fails if memory runs out.
+fn checkpoints_of(alloc: Global, body: &[u8], locals: Front) -> Result<Vec<Front>, AllocError>
+    requires { IsFront body.now locals }
+    ensures { IfOk result (λ checkpoints. All (IsFront body.now) checkpoints.items) }
+{
+    let mut checkpoints = Vec::from_slice(alloc, &[locals])?;
+    let mut last = locals;
+    for next in ItemReader::<Call>::to_end_at(alloc, &body[locals.len..], locals.len, false) {
+        let Some(offset) = offset_of(next)? else {
+            return Ok(checkpoints);
+        };
+        if offset.saturating_sub(last.len) >= CHECKPOINT_DISTANCE {
+            let Some(front) = longer_front(alloc, body, last, offset)? else {
+                return Ok(checkpoints);
+            };
+            checkpoints.push(front)?;
+            last = front;
+        }
+    }
+    Ok(checkpoints)
+}
+
+/// Returns the offset of an instruction that was read. `None` means that it is malformed. Fails if memory ran out.
+fn offset_of(next: Result<(usize, Call), DecodeError>) -> Result<Option<usize>, AllocError> {
+    match next {
+        Ok((offset, _)) => Ok(Some(offset)),
+        Err(DecodeError::Malformed(_)) => Ok(None),
+        Err(DecodeError::Memory) => Err(AllocError),
+    }
+}
+
+/// Returns the last checkpoint that ends at `offset` or before it. Returns `front` if there is none, or if `front` ends
+/// between them.
+fn nearest_front(checkpoints: &[Front], front: Front, offset: u32) -> Front
+    ensures { (body : List ℕ) → IsFront body front → All (IsFront body) checkpoints.now → IsFront body result }
+{
+    let len = offset as usize;
+    let count = checkpoints.partition_point(|checkpoint| checkpoint.len <= len);
+    match checkpoints[..count].last() {
+        Some(checkpoint) if front.len > len || front.len < checkpoint.len => *checkpoint,
+        _ => front,
+    }
+}
+
 /// Returns the bytes up to `offset`, which go on after `front`, or after the locals if `offset` is before the end of
 /// `front`.
 ///
@@ -89,26 +148,24 @@ fn front_up_to(
     ensures none { IfOk result (λ found. IfNone found (NoInstructionAt body.now offset)) }
 {
     if (offset as usize) < front.len {
-        return longer_front(alloc, body, locals, offset);
+        return longer_front(alloc, body, locals, offset as usize);
     }
-    longer_front(alloc, body, front, offset)
+    longer_front(alloc, body, front, offset as usize)
 }
 
-/// Returns the bytes up to `offset`, which go on after `front`.
+/// Returns the first `len` bytes, which go on after `front`.
 ///
-/// `None` means that no instruction begins at `offset`, or that `offset` is before the end of `front`. Fails if memory
-/// runs out.
+/// `None` means that no instruction begins after them, or that `front` is longer. Fails if memory runs out.
 fn longer_front(
     alloc: Global,
     body: &[u8],
     front: Front,
-    offset: u32,
+    len: usize,
 ) -> Result<Option<Front>, AllocError>
     requires { IsFront body.now front }
-    ensures front { IfOk result (λ found. IfSome found (IsFrontUpTo body.now offset)) }
-    ensures none { IfOk result (λ found. IfNone found (front.len ≤ offset → NoInstructionAt body.now offset)) }
+    ensures front { IfOk result (λ found. IfSome found (IsFrontUpTo body.now len)) }
+    ensures none { IfOk result (λ found. IfNone found (front.len ≤ len → NoInstructionAt body.now len)) }
 {
-    let len = offset as usize;
     if len < front.len || len >= body.len() {
         return Ok(None);
     }

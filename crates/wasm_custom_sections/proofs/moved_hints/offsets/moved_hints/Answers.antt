@@ -1,14 +1,21 @@
-use Rattle.std.proofs.Common.{◌∙◌, ◌+◌, [], false, get_or, refl, subst, sym, take}
-use Rattle.wasm_custom_sections.specs.MovedOffsets.{Each, MovesHint, none}
+use Rattle.std.proofs.Common.{All, ◌∙◌, ◌+◌, [], false, get_or, refl, rules, subst, sym, take}
+use Rattle.wasm_custom_sections.specs.MovedOffsets.{Each, IsFront, MovesHint, none}
 use Rattle.wasm_custom_sections.specs.declared.branch_hints.BranchHint.{BranchHint}
 use Rattle.wasm_custom_sections.proofs.MovedOffsetLaws.{each_more, hint_moved, no_first_hint, no_hint, no_hints}
 use Rattle.wasm_custom_sections.proofs.moved_hints.offsets.moved_hints.Goals as goal
+use Rattle.wasm_custom_sections.proofs.moved_hints.offsets.moved_hints.Goals.{then-offset-front+then-is_empty-2+in_ok-checkpoints, else-offset-front}
 
 pub loop-hint-init : goal.loop-hint-init
 loop-hint-init c = record {
   front_is = (rw c.in-Some.is at c.in_ok-locals.ensures.locals).front_is;
+  checkpoints_are = subst (All (IsFront c.args.body.now)) (sym c.new-checkpoints.ensures.items) (search rules);
   moves = subst (Each (MovesHint c.args.body.now) []) (sym c.in_ok-moved.ensures.items) none;
 }
+
+pub front_up_to-requires-clause-front : goal.front_up_to-requires-clause-front
+front_up_to-requires-clause-front c =
+    let checkpoints : All (IsFront c.args.body.now) c.if-offset-front.checkpoints.items = elim c.if-offset-front.branch [ then-offset-front+then-is_empty-2+in_ok-checkpoints w ↦ rw w.checkpoints-is w.in_ok-checkpoints.ensures | else-offset-front w ↦ rw w.checkpoints-is c.loop-hint.invariant.checkpoints_are ] in
+    c.nearest_front-start.ensures c.args.body.now c.loop-hint.invariant.front_is (rw c.as_slice.ensures.value checkpoints)
 
 pub loop-hint-preserved : goal.loop-hint-preserved
 loop-hint-preserved c =
@@ -20,6 +27,7 @@ loop-hint-preserved c =
     let one = hint_moved c.args.body.now (get_or hints i d) new c.in-Some-2.next front (sym c.in-Ok.ensures.1) refl in
     record {
       front_is = front.front_is;
+      checkpoints_are = search rules;
       moves = subst (Each (MovesHint c.args.body.now) (take (i + 1) hints)) (sym c.in_ok-push.ensures.items) (each_more (MovesHint c.args.body.now) hints c.loop-hint.moved.items i d new c.loop-hint-test.true c.loop-hint.invariant.moves one);
     }
 
