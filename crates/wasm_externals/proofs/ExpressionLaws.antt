@@ -285,8 +285,8 @@ pub in_expr : (calls : List Instruction) → IsMinimal expr.Encodes expr.bytes c
 in_expr calls h = in_range_of expr expr_is_lawful calls h
 
 -- an instruction that opens and closes no block is closed
-pub alone_closed : (number : ℕ) (o : Operands) → nested_by 0 number ≡ goes_on 0 → IsClosed (call (without_prefix number) o ∷ [])
-alone_closed number o e = rw e refl
+pub alone_closed : (op : Opcode) (o : Operands) → nested 0 op ≡ goes_on 0 → IsClosed (call op o ∷ [])
+alone_closed op o e = rw e refl
 
 -- what goes on with one property goes on with another that follows from it
 goes_on_with : {S : Type 0} {P Q : S → Type 0} (m : Move S) → ((t : S) → P t → Q t) → GoesOnWith P m → GoesOnWith Q m

@@ -1,3 +1,4 @@
 pub mod Making
 pub mod ClosedExpressions
+pub mod HeldCalls
 pub mod formats

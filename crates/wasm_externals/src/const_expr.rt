@@ -7,15 +7,18 @@ ghost use Rattle.wasm_instructions.specs.Instructions.{IsAligned, IsCall};
 ghost use Rattle.wasm_instructions.specs.declared.table.call.Operands.TheVariants as operands;
 ghost use Rattle.wasm_externals.specs.ClosedExpressions.{IsClosed, ReadsClosed};
 ghost use Rattle.wasm_externals.specs.Making.{Makes};
+ghost use Rattle.wasm_externals.specs.HeldCalls.{calls_of};
 
 mod longer;
 
 use crate::expressions::is_closed;
 use std::alloc::Global;
+use std::fmt;
+use std::fmt::Debug;
 use std::marker::Model;
 use wasm_codec::encode::EncodeError;
 use wasm_codec::reader::ReadError;
-use wasm_instructions::operands::{Ieee32, Ieee64};
+use wasm_instructions::operands::{Ieee32, Ieee64, V128};
 use wasm_instructions::reader::instructions::read_instructions;
 use wasm_instructions::table::{Call, Opcode, Operands};
 use wasm_lists::list::Items;
@@ -24,7 +27,8 @@ use wasm_types::types::HeapType;
 /// A constant expression: its instructions without the final `end` (Core 3.0, Expressions).
 ///
 /// Methods such as [`with_i32_add`](ConstExpr::with_i32_add) append an instruction. Every block in an expression is
-/// closed. Nothing checks that the instructions are constant. In contracts the expression is the list of its instructions.
+/// closed. Nothing checks that the instructions are constant. An expression of one instruction allocates nothing. In
+/// contracts the expression is the list of its instructions.
 ///
 /// # Examples
 ///
@@ -47,19 +51,48 @@ use wasm_types::types::HeapType;
 /// ```
 #[derive(Debug, Drop)]
 pub struct ConstExpr {
-    calls: Items<Call>,
+    calls: Calls,
+}
+
+/// The instructions of an expression.
+#[derive(Drop)]
+pub(crate) enum Calls {
+    /// One instruction without a list, and the allocator for the list.
+    One(Global, Call),
+    /// Any number of instructions.
+    Many(Items<Call>),
+}
+
+impl Calls {
+    /// Returns the instructions.
+    fn as_slice(&self) -> &[Call]
+        ensures value { result.now ≡ calls_of self.now }
+    {
+        match self {
+            Calls::One(_alloc, call) => std::slice::from_ref(call),
+            Calls::Many(calls) => calls.as_slice(),
+        }
+    }
+}
+
+/// The list of the instructions.
+impl Debug for Calls {
+    fn fmt<W: fmt::Write>(&self, f: &mut fmt::Formatter<W>) -> fmt::Result {
+        Debug::fmt(self.as_slice(), f)
+    }
 }
 
 impl Model for ConstExpr {
     ghost use Rattle.std.specs.Prelude.{List};
     ghost use Rattle.wasm_instructions.specs.formats.Instructions.{Instruction};
     ghost use Rattle.wasm_externals.specs.ClosedExpressions.{IsClosed};
+    ghost use Rattle.wasm_externals.specs.HeldCalls.{calls_of};
 
     ghost Value = { List Instruction };
 
-    ghost view = { λ expr. expr.calls };
+    ghost view = { λ expr. calls_of expr.calls };
 
-    ghost invariant = { λ expr. IsClosed expr.calls };
+    ghost invariant = { λ expr. IsClosed (calls_of expr.calls) };
 }
 
 #[tactic(auto, using(crate::proofs::ExpressionLaws::alone_closed), unfolding(wasm_instructions::specs::formats::Opcodes::ranges))]
@@ -72,7 +105,9 @@ impl ConstExpr {
         ensures accepts { IsOk result ↔ IsClosed calls }
     {
         if is_closed(calls.as_slice()) {
-            Ok(ConstExpr { calls })
+            Ok(ConstExpr {
+                calls: Calls::Many(calls),
+            })
         } else {
             Err(calls)
         }
@@ -108,79 +143,80 @@ impl ConstExpr {
         ensures { result ≡ [] }
     {
         ConstExpr {
-            calls: Items::from(Vec::new(alloc)),
+            calls: Calls::Many(Items::new(alloc)),
         }
     }
 
-    /// Makes the expression `i32.const value`. Fails with `Memory` if it can't allocate.
+    /// Makes the expression `i32.const value`. Allocates nothing.
     pub fn i32_const(alloc: Global, value: i32) -> Result<ConstExpr, EncodeError>
         ensures makes { Makes (call (without_prefix 0x41) (operands.I32 value) ∷ []) result }
     {
-        ConstExpr::of(alloc, 0x41, Operands::I32(value))
+        ConstExpr::of(alloc, Opcode::without_prefix(0x41), Operands::I32(value))
     }
 
-    /// Makes the expression `i64.const value`. Fails with `Memory` if it can't allocate.
+    /// Makes the expression `i64.const value`. Allocates nothing.
     pub fn i64_const(alloc: Global, value: i64) -> Result<ConstExpr, EncodeError>
         ensures makes { Makes (call (without_prefix 0x42) (operands.I64 value) ∷ []) result }
     {
-        ConstExpr::of(alloc, 0x42, Operands::I64(value))
+        ConstExpr::of(alloc, Opcode::without_prefix(0x42), Operands::I64(value))
     }
 
-    /// Makes the expression `f32.const value`. Fails with `Memory` if it can't allocate.
+    /// Makes the expression `f32.const value`. Allocates nothing.
     pub fn f32_const(alloc: Global, value: Ieee32) -> Result<ConstExpr, EncodeError>
         ensures makes { Makes (call (without_prefix 0x43) (operands.F32 value) ∷ []) result }
     {
-        ConstExpr::of(alloc, 0x43, Operands::F32(value))
+        ConstExpr::of(alloc, Opcode::without_prefix(0x43), Operands::F32(value))
     }
 
-    /// Makes the expression `f64.const value`. Fails with `Memory` if it can't allocate.
+    /// Makes the expression `f64.const value`. Allocates nothing.
     pub fn f64_const(alloc: Global, value: Ieee64) -> Result<ConstExpr, EncodeError>
         ensures makes { Makes (call (without_prefix 0x44) (operands.F64 value) ∷ []) result }
     {
-        ConstExpr::of(alloc, 0x44, Operands::F64(value))
+        ConstExpr::of(alloc, Opcode::without_prefix(0x44), Operands::F64(value))
     }
 
-    /// Makes the expression `v128.const value`. Fails with `Memory` if it can't allocate.
+    /// Makes the expression `v128.const value`. Allocates nothing.
     pub fn v128_const(alloc: Global, value: i128) -> Result<ConstExpr, EncodeError>
         ensures makes { Makes (call (after_fd 0x0c) (operands.V128 (v128 value)) ∷ []) result }
     {
-        ConstExpr::empty(alloc).with_v128_const(value)
+        ConstExpr::of(
+            alloc,
+            Opcode::after_fd(0x0C),
+            Operands::V128(V128::new(value)),
+        )
     }
 
-    /// Makes the expression `global.get index`, with a global index. Fails with `Memory` if it can't allocate.
+    /// Makes the expression `global.get index`, with a global index. Allocates nothing.
     pub fn global_get(alloc: Global, index: u32) -> Result<ConstExpr, EncodeError>
         ensures makes { Makes (call (without_prefix 0x23) (operands.Index index) ∷ []) result }
     {
-        ConstExpr::of(alloc, 0x23, Operands::Index(index))
+        ConstExpr::of(alloc, Opcode::without_prefix(0x23), Operands::Index(index))
     }
 
-    /// Makes the expression `ref.null ty`. Fails with `Memory` if it can't allocate.
+    /// Makes the expression `ref.null ty`. Allocates nothing.
     pub fn ref_null(alloc: Global, ty: HeapType) -> Result<ConstExpr, EncodeError>
         ensures makes { Makes (call (without_prefix 0xd0) (operands.Heap ty) ∷ []) result }
     {
-        ConstExpr::of(alloc, 0xD0, Operands::Heap(ty))
+        ConstExpr::of(alloc, Opcode::without_prefix(0xD0), Operands::Heap(ty))
     }
 
-    /// Makes the expression `ref.func index`, with a function index. Fails with `Memory` if it can't allocate.
+    /// Makes the expression `ref.func index`, with a function index. Allocates nothing.
     pub fn ref_func(alloc: Global, index: u32) -> Result<ConstExpr, EncodeError>
         ensures makes { Makes (call (without_prefix 0xd2) (operands.Index index) ∷ []) result }
     {
-        ConstExpr::of(alloc, 0xD2, Operands::Index(index))
+        ConstExpr::of(alloc, Opcode::without_prefix(0xD2), Operands::Index(index))
     }
 
-    /// Makes an expression of one instruction. Fails with `Memory` if it can't allocate.
+    /// Makes an expression of one instruction, which opens and closes no block. Allocates nothing.
     #[tactic(auto)]
-    fn of(alloc: Global, number: u8, immediates: Operands) -> Result<ConstExpr, EncodeError>
-        requires call { IsCall (without_prefix number) immediates }
+    fn of(alloc: Global, op: Opcode, immediates: Operands) -> Result<ConstExpr, EncodeError>
+        requires call { IsCall op immediates }
         requires aligned { IsAligned immediates }
-        requires closed { IsClosed (call (without_prefix number) immediates ∷ []) }
-        ensures makes { Makes (call (without_prefix number) immediates ∷ []) result }
+        requires closed { IsClosed (call op immediates ∷ []) }
+        ensures makes { Makes (call op immediates ∷ []) result }
     {
-        let mut calls = Vec::with_capacity(alloc, 1)?;
-        calls.push_reserved(Call::from_parts(Opcode::without_prefix(number), immediates));
-        Ok(ConstExpr {
-            calls: Items::from(calls),
-        })
+        let calls = Calls::One(alloc, Call::from_parts(op, immediates));
+        Ok(ConstExpr { calls })
     }
 
     /// Returns the instructions, without the final `end`.
@@ -191,12 +227,20 @@ impl ConstExpr {
         self.calls.as_slice()
     }
 
-    /// Returns the list of instructions, without the final `end`.
-    pub fn into_calls(self) -> Items<Call>
-        ensures value { result ≡ self }
+    /// Returns the list of instructions, without the final `end`. Fails with `Memory` if it can't allocate the list of
+    /// one instruction.
+    pub fn into_calls(self) -> Result<Items<Call>, EncodeError>
+        ensures makes { Makes self result }
         ensures closed { IsClosed self }
     {
         let ConstExpr { calls } = self;
-        calls
+        match calls {
+            Calls::One(alloc, call) => {
+                let mut calls = Vec::with_capacity(alloc, 1)?;
+                calls.push_reserved(call);
+                Ok(Items::from(calls))
+            }
+            Calls::Many(calls) => Ok(calls),
+        }
     }
 }

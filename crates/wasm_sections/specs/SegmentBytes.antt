@@ -4,19 +4,28 @@ use Rattle.wasm_codec.specs.Leb128.{unsigned_leb128}
 use Rattle.wasm_codec.specs.formats.Combinators.{u32, items}
 use Rattle.wasm_types.specs.formats.Types.{ref_type}
 use Rattle.wasm_instructions.specs.formats.Instructions.{Instruction}
+use Rattle.wasm_sections.specs.declared.data.ActiveData.{ActiveData}
 use Rattle.wasm_sections.specs.declared.data.DataSegmentMode.{DataSegmentMode}
 use Rattle.wasm_sections.specs.declared.data.DataSegmentMode.TheVariants as data_modes
+use Rattle.wasm_sections.specs.declared.elements.ActiveElement.{ActiveElement}
+use Rattle.wasm_sections.specs.declared.elements.Element.{Element}
 use Rattle.wasm_sections.specs.declared.elements.ElementMode.{ElementMode}
 use Rattle.wasm_sections.specs.declared.elements.ElementMode.TheVariants as modes
 use Rattle.wasm_sections.specs.declared.elements.Elements.{Elements}
 use Rattle.wasm_sections.specs.declared.elements.Elements.TheVariants as held
 use Rattle.wasm_externals.specs.formats.PartCombinators.{part_if}
 use Rattle.wasm_externals.specs.formats.Expressions.{expr}
-use Rattle.wasm_sections.specs.formats.Elements.{kind_and_functions}
+use Rattle.wasm_sections.specs.formats.Elements.{element, kind_and_functions}
+use Rattle.wasm_sections.specs.formats.EntryParts.{DataParts}
+use Rattle.wasm_sections.specs.formats.Segments.{active_data}
 
 -- The number of a form, the index of a memory or table if it is named, and the offset in it.
 abbrev pub table_and_offset_bytes : ℕ → Option ℕ → List Instruction → List ℕ
 table_and_offset_bytes form index offset = unsigned_leb128 form ++ ((part_if (is_some index) u32).bytes index ++ expr.bytes offset)
+
+-- The parts of an active data segment that borrows its offset.
+abbrev pub active_parts : ActiveData → DataParts
+active_parts d = active_data d.memory_index (d.offset.now, d.bytes.now)
 
 -- The bytes before those of a data segment.
 abbrev pub data_mode_bytes : DataSegmentMode → List ℕ
@@ -31,6 +40,10 @@ DataModeFits (data_modes.Active memory offset) = (memory < 2 ^ 32) × expr.InRan
 -- The form names neither a table nor the kind or type of the elements.
 abbrev pub is_short : ℕ → Bool
 is_short form = form == 0 || form == 4
+
+-- The active element segment that this borrows from.
+abbrev pub active_element : ActiveElement → Element
+active_element e = element (modes.Active e.table_index e.offset.now) e.elements.now
 
 -- The bytes before the elements of a segment in this form.
 abbrev pub element_mode_bytes : ℕ → ElementMode → List ℕ

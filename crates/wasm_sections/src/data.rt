@@ -4,7 +4,6 @@ ghost use Rattle.wasm_codec.specs.Scanning.{Scans};
 ghost use Rattle.wasm_codec.specs.declared.rewriter.scan.Scanned.TheVariants.{Minimal};
 ghost use Rattle.wasm_codec.specs.Places.{Reads};
 ghost use Rattle.wasm_codec.specs.Rewriter.{Rewrites};
-ghost use Rattle.wasm_codec.specs.Outcomes.{IsMalformed};
 ghost use Rattle.std.proofs.lemmas.List.{map_push};
 ghost use Rattle.wasm_codec.specs.formats.Grammar.{TakesBytes};
 ghost use Rattle.wasm_codec.specs.Lawful.{IsLawful};
@@ -12,6 +11,9 @@ ghost use Rattle.wasm_codec.specs.Reading.{map_ok};
 ghost use Rattle.wasm_codec.specs.formats.Bodies.{byte_list};
 ghost use Rattle.wasm_codec.specs.formats.Combinators.{◌⊗◌, items};
 ghost use Rattle.wasm_sections.specs.formats.EntryParts.{DataParts, data_parts, all_data_parts};
+ghost use Rattle.wasm_sections.specs.SegmentBytes.{active_parts};
+ghost use Rattle.wasm_sections.specs.declared.data.DataSegmentMode.TheVariants as data_modes;
+ghost use Rattle.wasm_externals.specs.ClosedExpressions.{IsClosed, IsCountedExpr};
 ghost use Rattle.wasm_externals.specs.formats.Expressions.{expr};
 ghost use Rattle.wasm_sections.specs.formats.Segments.{data_segment, active_data, passive_data};
 ghost use Rattle.wasm_codec.specs.Encoding.{IsRefusal, IsMinimal, OnlyTooLong};
@@ -23,7 +25,7 @@ ghost use Rattle.wasm_sections.specs.ListSections.{AddsCounted, LawfulIf};
 use crate::list_section::{ListSection, SectionItem, add};
 use crate::segments::append_table_and_offset;
 use std::alloc::{Allocator, Global};
-use wasm_code::raw::RawBytes;
+use wasm_code::raw::{RawBytes, read_sized_bytes};
 use wasm_codec::encode::leb128::put_u32;
 use wasm_codec::encode::{EncodeError, keep_or_undo};
 use wasm_codec::reader::cursor::{Cursor, Fault};
@@ -60,16 +62,6 @@ pub struct DataSegment<'a> {
     pub bytes: &'a [u8],
 }
 
-/// Reads bytes that follow their length.
-fn read_byte_list<'a>(cursor: &mut Cursor<'a>) -> Result<&'a [u8], Fault>
-    ensures reads { Reads byte_list.at cursor.old cursor.new (map_ok (λ bytes. bytes.now) result) }
-    ensures err { IfErr result IsMalformed }
-{
-    let start = cursor.to_end();
-    let size = cursor.u32()?;
-    cursor.take_sized(size, start)
-}
-
 /// Reads a data segment. Notes a non-minimal form if the segment names memory 0.
 #[tactic(auto, using(crate::proofs::SegmentLaws::no_data_form), unfolding(crate::specs::formats::Segments::data_segment))]
 fn read_data_segment<'a>(alloc: Global, cursor: &mut Cursor<'a>) -> Result<DataSegment<'a>, Fault>
@@ -79,7 +71,7 @@ fn read_data_segment<'a>(alloc: Global, cursor: &mut Cursor<'a>) -> Result<DataS
     match cursor.u32()? {
         0 => {
             let offset = read_expr(alloc, cursor)?;
-            let bytes = read_byte_list(cursor)?;
+            let bytes = read_sized_bytes(cursor)?;
             let mode = DataSegmentMode::Active {
                 memory_index: 0,
                 offset,
@@ -87,7 +79,7 @@ fn read_data_segment<'a>(alloc: Global, cursor: &mut Cursor<'a>) -> Result<DataS
             Ok(DataSegment { mode, bytes })
         }
         1 => {
-            let bytes = read_byte_list(cursor)?;
+            let bytes = read_sized_bytes(cursor)?;
             Ok(DataSegment {
                 mode: DataSegmentMode::Passive,
                 bytes,
@@ -96,7 +88,7 @@ fn read_data_segment<'a>(alloc: Global, cursor: &mut Cursor<'a>) -> Result<DataS
         2 => {
             let memory_index = cursor.u32()?;
             let offset = read_expr(alloc, cursor)?;
-            let bytes = read_byte_list(cursor)?;
+            let bytes = read_sized_bytes(cursor)?;
             if memory_index == 0 {
                 cursor.note_long_form();
             }
@@ -242,18 +234,31 @@ fn append_data_mode<A: Allocator>(
         DataSegmentMode::Active {
             memory_index,
             offset,
-        } => {
-            if *memory_index == 0 {
-                append_table_and_offset(0, None, offset.as_slice(), sink)
-            } else {
-                append_table_and_offset(2, Some(*memory_index), offset.as_slice(), sink)
-            }
-        }
+        } => append_active_mode(*memory_index, offset.as_slice(), sink),
         DataSegmentMode::Passive => {
             sink.reserve(5)?;
             put_u32(sink, 1);
             Ok(())
         }
+    }
+}
+
+/// Appends what precedes the contents of an active data segment. On error a part of it may remain.
+fn append_active_mode<A: Allocator>(
+    memory_index: u32,
+    offset: &[Call],
+    sink: &mut Vec<u8, A>,
+) -> Result<(), EncodeError>
+    ensures ok { OnOk result (sink.new.items ≡ sink.old.items ++ data_mode_bytes (data_modes.Active memory_index offset.now)) }
+    ensures can { OnOk result (IsCountedExpr offset.now) }
+    ensures fits { OnOk result (IsClosed offset.now → DataModeFits (data_modes.Active memory_index offset.now)) }
+    ensures refused { IfErr result (IsRefusal IsCountedExpr OnlyTooLong offset.now) }
+    ensures kept { take (length sink.old.items) sink.new.items ≡ sink.old.items }
+{
+    if memory_index == 0 {
+        append_table_and_offset(0, None, offset, sink)
+    } else {
+        append_table_and_offset(2, Some(memory_index), offset, sink)
     }
 }
 
@@ -293,6 +298,48 @@ impl<'a> Encode for DataSegment<'a> {
         let result = append_data_segment(self, sink);
         keep_or_undo(sink, start, result)
     }
+}
+
+/// An active data segment that borrows its offset, so that adding it needs no list.
+#[derive(Drop)]
+struct ActiveData<'a> {
+    memory_index: u32,
+    offset: &'a [Call],
+    bytes: &'a [u8],
+}
+
+impl Encode for ActiveData<'_> {
+    ghost bytes = { λ segment. data_segment.bytes (active_parts segment) };
+
+    ghost IsWritten = { λ segment. IsClosed segment.offset.now →
+        IsMinimal data_segment.Encodes data_segment.bytes (active_parts segment) };
+
+    ghost CanEncode = { λ segment. IsCountedData (active_parts segment) };
+
+    ghost refuses = { OnlyTooLong };
+
+    fn encode<A: Allocator>(&self, sink: &mut Vec<u8, A>) -> Result<(), EncodeError> {
+        let start = sink.len();
+        let result = append_active(self, sink);
+        keep_or_undo(sink, start, result)
+    }
+}
+
+/// Appends an active data segment. On error a part of it may remain.
+fn append_active<A: Allocator>(
+    segment: &ActiveData<'_>,
+    sink: &mut Vec<u8, A>,
+) -> Result<(), EncodeError>
+    ensures ok { OnOk result (sink.new.items ≡ sink.old.items ++ data_segment.bytes (active_parts segment.now)) }
+    ensures can { OnOk result (IsCountedData (active_parts segment.now)) }
+    ensures written { OnOk result (IsClosed segment.now.offset.now →
+        IsMinimal data_segment.Encodes data_segment.bytes (active_parts segment.now)) }
+    ensures refused { IfErr result (IsRefusal (λ d. IsCountedData (active_parts d)) OnlyTooLong segment.now) }
+    ensures kept { take (length sink.old.items) sink.new.items ≡ sink.old.items }
+{
+    are_bytes(segment.bytes);
+    append_active_mode(segment.memory_index, segment.offset, sink)?;
+    encode_bytes(segment.bytes, sink)
 }
 
 /// A data section (Core 3.0, Data Section).
@@ -347,11 +394,12 @@ impl<'a> ListSection<DataSegment<'a>> {
     ) -> Result<(), EncodeError>
         ensures adds { AddsCounted data_section IsCountedData self.old (active_data memory_index (offset, bytes.now)) self.new result }
     {
-        let mode = DataSegmentMode::Active {
+        let calls = offset.as_slice();
+        self.items.add(&ActiveData {
             memory_index,
-            offset: offset.into_calls(),
-        };
-        add(&mut self.items, &DataSegment { mode, bytes })
+            offset: calls,
+            bytes,
+        })
     }
 
     /// Adds a passive segment, which `memory.init` copies.

@@ -13,8 +13,8 @@ ghost use Rattle.std.specs.List.{All, Any, flat_map};
 ghost use Rattle.wasm_codec.specs.Encoding.{CanEncodeList, IsListRefusal, IsRefusal, IsMinimal, OnlyTooLong, Refuses};
 ghost use Rattle.wasm_codec.specs.declared.encode.EncodeError.TheVariants.{Memory};
 ghost use Rattle.wasm_sections.specs.ClosedEntries.{AreClosed, AreCounted, IsClosedElement, IsClosedMode, IsCountedElement, IsCountedMode};
-ghost use Rattle.wasm_externals.specs.ClosedExpressions.{IsCountedExpr, IsWrittenExpr};
-ghost use Rattle.wasm_sections.specs.SegmentBytes.{ElementModeFits, ElementsFit, element_mode_bytes, elements_bytes, is_short};
+ghost use Rattle.wasm_externals.specs.ClosedExpressions.{IsClosed, IsCountedExpr, IsWrittenExpr};
+ghost use Rattle.wasm_sections.specs.SegmentBytes.{active_element, ElementModeFits, ElementsFit, element_mode_bytes, elements_bytes, is_short};
 ghost use Rattle.wasm_sections.specs.SectionKinds.{element_section};
 ghost use Rattle.wasm_sections.specs.declared.elements.ElementMode.TheVariants as modes;
 ghost use Rattle.wasm_sections.specs.declared.elements.Elements.TheVariants as held;
@@ -99,23 +99,39 @@ fn is_funcref(ty: RefType) -> bool
 pub(crate) fn number_of(element: &Element) -> u32
     ensures { result ≡ element_number element.now }
 {
-    match &element.elements {
-        Elements::Functions(_) => match &element.mode {
-            ElementMode::Passive => 1,
-            ElementMode::Active { table_index, .. } => if *table_index == 0 { 0 } else { 2 },
-            ElementMode::Declared => 3,
+    match &element.mode {
+        ElementMode::Passive => match &element.elements {
+            Elements::Functions(_) => 1,
+            Elements::Expressions(_, _) => 5,
         },
-        Elements::Expressions(ty, _) => match &element.mode {
-            ElementMode::Passive => 5,
-            ElementMode::Active { table_index, .. } => {
-                if *table_index == 0 && is_funcref(*ty) {
-                    4
-                } else {
-                    6
-                }
+        ElementMode::Active {
+            table_index,
+            offset,
+        } => number_of_active(&ActiveElement {
+            table_index: *table_index,
+            offset: offset.as_slice(),
+            elements: &element.elements,
+        }),
+        ElementMode::Declared => match &element.elements {
+            Elements::Functions(_) => 3,
+            Elements::Expressions(_, _) => 7,
+        },
+    }
+}
+
+/// Returns the number of the minimal form of an active segment.
+fn number_of_active(segment: &ActiveElement<'_>) -> u32
+    ensures { result ≡ element_number (active_element segment.now) }
+{
+    match segment.elements {
+        Elements::Functions(_) => if segment.table_index == 0 { 0 } else { 2 },
+        Elements::Expressions(ty, _) => {
+            if segment.table_index == 0 && is_funcref(*ty) {
+                4
+            } else {
+                6
             }
-            ElementMode::Declared => 7,
-        },
+        }
     }
 }
 
@@ -408,18 +424,32 @@ fn append_element_mode<A: Allocator>(
         ElementMode::Active {
             table_index,
             offset,
-        } => {
-            if is_short(form) {
-                append_table_and_offset(form, None, offset.as_slice(), sink)
-            } else {
-                append_table_and_offset(form, Some(*table_index), offset.as_slice(), sink)
-            }
-        }
+        } => append_active_mode(form, *table_index, offset.as_slice(), sink),
         ElementMode::Passive | ElementMode::Declared => {
             sink.reserve(5)?;
             put_u32(sink, form);
             Ok(())
         }
+    }
+}
+
+/// Appends what precedes the element kind or type of an active segment in this form. On error a part of it may remain.
+fn append_active_mode<A: Allocator>(
+    form: u32,
+    table_index: u32,
+    offset: &[Call],
+    sink: &mut Vec<u8, A>,
+) -> Result<(), EncodeError>
+    ensures ok { OnOk result (sink.new.items ≡ sink.old.items ++ element_mode_bytes form (modes.Active table_index offset.now)) }
+    ensures can { OnOk result (IsCountedExpr offset.now) }
+    ensures fits { OnOk result (IsClosed offset.now → ElementModeFits form (modes.Active table_index offset.now)) }
+    ensures refused { IfErr result (IsRefusal IsCountedExpr OnlyTooLong offset.now) }
+    ensures kept { take (length sink.old.items) sink.new.items ≡ sink.old.items }
+{
+    if is_short(form) {
+        append_table_and_offset(form, None, offset, sink)
+    } else {
+        append_table_and_offset(form, Some(table_index), offset, sink)
     }
 }
 
@@ -538,6 +568,48 @@ impl Encode for Element {
     }
 }
 
+/// An active element segment that borrows its offset and elements, so that adding it needs no list.
+#[derive(Drop)]
+struct ActiveElement<'a> {
+    table_index: u32,
+    offset: &'a [Call],
+    elements: &'a Elements,
+}
+
+impl Encode for ActiveElement<'_> {
+    ghost bytes = { λ segment. element_segment.bytes (active_element segment) };
+
+    ghost IsWritten = { λ segment. IsClosedElement (active_element segment) →
+        IsMinimal element_segment.Encodes element_segment.bytes (active_element segment) };
+
+    ghost CanEncode = { λ segment. IsCountedElement (active_element segment) };
+
+    ghost refuses = { OnlyTooLong };
+
+    fn encode<A: Allocator>(&self, sink: &mut Vec<u8, A>) -> Result<(), EncodeError> {
+        let start = sink.len();
+        let result = append_active(self, sink);
+        keep_or_undo(sink, start, result)
+    }
+}
+
+/// Appends an active element segment. On error a part of it may remain.
+fn append_active<A: Allocator>(
+    segment: &ActiveElement<'_>,
+    sink: &mut Vec<u8, A>,
+) -> Result<(), EncodeError>
+    ensures ok { OnOk result (sink.new.items ≡ sink.old.items ++ element_segment.bytes (active_element segment.now)) }
+    ensures can { OnOk result (IsCountedElement (active_element segment.now)) }
+    ensures written { OnOk result (IsClosedElement (active_element segment.now) →
+        IsMinimal element_segment.Encodes element_segment.bytes (active_element segment.now)) }
+    ensures refused { IfErr result (IsRefusal (λ e. IsCountedElement (active_element e)) OnlyTooLong segment.now) }
+    ensures kept { take (length sink.old.items) sink.new.items ≡ sink.old.items }
+{
+    let form = number_of_active(segment);
+    append_active_mode(form, segment.table_index, segment.offset, sink)?;
+    append_elements(is_short(form), segment.elements, sink)
+}
+
 /// An element section (Core 3.0, Element Section).
 ///
 /// # Examples
@@ -576,7 +648,7 @@ impl SectionItem for Element {
 /// 4,294,967,295 elements, or a list in an instruction has more items than that.
 ///
 /// The segment has an encoding only if every expression among `elements` closes its blocks.
-#[tactic(auto, using(crate::proofs::ItemLaws::adds_elements, crate::proofs::ItemLaws::adds_closed))]
+#[tactic(auto, using(crate::proofs::ItemLaws::adds_closed))]
 impl ListSection<Element> {
     /// Adds an active segment: instantiating the module copies `elements` into the table `table_index`, from index
     /// `offset` on. The encoding omits table 0 if that is shorter.
@@ -588,11 +660,12 @@ impl ListSection<Element> {
     ) -> Result<(), EncodeError>
         ensures adds { AddsSegment (modes.Active table_index offset) elements self.old self.new result }
     {
-        let mode = ElementMode::Active {
+        let calls = offset.as_slice();
+        self.items.add(&ActiveElement {
             table_index,
-            offset: offset.into_calls(),
-        };
-        self.push(&Element { mode, elements })
+            offset: calls,
+            elements: &elements,
+        })
     }
 
     /// Adds a passive segment, which `table.init` copies.

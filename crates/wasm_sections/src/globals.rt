@@ -7,6 +7,7 @@ ghost use Rattle.wasm_codec.specs.Rewriter.{Rewrites};
 ghost use Rattle.wasm_sections.specs.declared.globals.Global.{Global};
 ghost use Rattle.wasm_sections.specs.formats.Entries.{global_entry, global_of};
 ghost use Rattle.wasm_codec.specs.Encoding.{IsRefusal, IsMinimal, OnlyTooLong};
+ghost use Rattle.wasm_externals.specs.ClosedExpressions.{IsClosed, IsCountedExpr};
 ghost use Rattle.wasm_sections.specs.ClosedEntries.{IsClosedGlobal, IsCountedGlobal};
 ghost use Rattle.wasm_sections.specs.SectionKinds.{global_section};
 ghost use Rattle.wasm_sections.specs.ListSections.{AddsCounted};
@@ -94,17 +95,22 @@ fn scan_global(bytes: &[u8]) -> Option<usize>
     Some(ty + init)
 }
 
-/// Appends a global. On error a part of it may remain.
-fn append_global<A: Allocator>(global: &Global, sink: &mut Vec<u8, A>) -> Result<(), EncodeError>
-    ensures ok { OnOk result (sink.new.items ≡ sink.old.items ++ global_entry.bytes global.now) }
-    ensures can { OnOk result (IsCountedGlobal global.now) }
-    ensures written { OnOk result (IsClosedGlobal global.now → IsMinimal global_entry.Encodes global_entry.bytes global.now) }
-    ensures refused { IfErr result (IsRefusal IsCountedGlobal OnlyTooLong global.now) }
+/// Appends a global of this type with this initial value. On error a part of it may remain.
+fn append_global<A: Allocator>(
+    ty: GlobalType,
+    init: &[Call],
+    sink: &mut Vec<u8, A>,
+) -> Result<(), EncodeError>
+    ensures ok { OnOk result (sink.new.items ≡ sink.old.items ++ global_entry.bytes (global_of (ty, init.now))) }
+    ensures can { OnOk result (IsCountedExpr init.now) }
+    ensures written { OnOk result (IsClosed init.now →
+        IsMinimal global_entry.Encodes global_entry.bytes (global_of (ty, init.now))) }
+    ensures refused { IfErr result (IsRefusal IsCountedExpr OnlyTooLong init.now) }
     ensures kept { take (length sink.old.items) sink.new.items ≡ sink.old.items }
 {
     sink.reserve(8)?;
-    put_global_type(sink, global.ty);
-    encode_expr(global.init.as_slice(), sink)
+    put_global_type(sink, ty);
+    encode_expr(init, sink)
 }
 
 /// The type and the initial expression (Core 3.0, Global Section).
@@ -121,7 +127,31 @@ impl Encode for Global {
 
     fn encode<A: Allocator>(&self, sink: &mut Vec<u8, A>) -> Result<(), EncodeError> {
         let start = sink.len();
-        let result = append_global(self, sink);
+        let result = append_global(self.ty, self.init.as_slice(), sink);
+        keep_or_undo(sink, start, result)
+    }
+}
+
+/// A global that borrows its initial value, so that adding it needs no list.
+#[derive(Drop)]
+struct BorrowedGlobal<'a> {
+    ty: GlobalType,
+    init: &'a [Call],
+}
+
+impl Encode for BorrowedGlobal<'_> {
+    ghost bytes = { λ global. global_entry.bytes (global_of (global.ty, global.init.now)) };
+
+    ghost IsWritten = { λ global. IsClosed global.init.now →
+        IsMinimal global_entry.Encodes global_entry.bytes (global_of (global.ty, global.init.now)) };
+
+    ghost CanEncode = { λ global. IsCountedExpr global.init.now };
+
+    ghost refuses = { OnlyTooLong };
+
+    fn encode<A: Allocator>(&self, sink: &mut Vec<u8, A>) -> Result<(), EncodeError> {
+        let start = sink.len();
+        let result = append_global(self.ty, self.init, sink);
         keep_or_undo(sink, start, result)
     }
 }
@@ -165,7 +195,7 @@ impl ListSection<Global> {
     pub fn global(&mut self, ty: GlobalType, init: ConstExpr) -> Result<(), EncodeError>
         ensures adds { AddsCounted global_section IsCountedGlobal self.old (global_of (ty, init)) self.new result }
     {
-        let init = init.into_calls();
-        self.push(&Global { ty, init })
+        let calls = init.as_slice();
+        self.items.add(&BorrowedGlobal { ty, init: calls })
     }
 }

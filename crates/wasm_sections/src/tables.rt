@@ -5,6 +5,7 @@ ghost use Rattle.wasm_codec.specs.Rewriter.{Rewrites};
 ghost use Rattle.wasm_sections.specs.declared.tables.Table.{Table};
 ghost use Rattle.wasm_sections.specs.formats.Entries.{table_entry, filled_of, unfilled};
 ghost use Rattle.wasm_codec.specs.Encoding.{IsRefusal, IsMinimal, OnlyTooLong};
+ghost use Rattle.wasm_externals.specs.ClosedExpressions.{IsClosed, IsCountedExpr};
 ghost use Rattle.wasm_sections.specs.ClosedEntries.{IsClosedTable, IsCountedTable};
 ghost use Rattle.wasm_sections.specs.SectionKinds.{table_section};
 ghost use Rattle.wasm_sections.specs.ListSections.{AddsItem, AddsCounted};
@@ -104,11 +105,27 @@ fn append_table<A: Allocator>(table: &Table, sink: &mut Vec<u8, A>) -> Result<()
         put_table_type(sink, &table.ty);
         return Ok(());
     };
+    append_filled(&table.ty, init.as_slice(), sink)
+}
+
+/// Appends a table of this type with this initial value. On error a part of it may remain.
+fn append_filled<A: Allocator>(
+    ty: &TableType,
+    init: &[Call],
+    sink: &mut Vec<u8, A>,
+) -> Result<(), EncodeError>
+    ensures ok { OnOk result (sink.new.items ≡ sink.old.items ++ table_entry.bytes (filled_of (ty.now, init.now))) }
+    ensures can { OnOk result (IsCountedExpr init.now) }
+    ensures written { OnOk result (IsClosed init.now →
+        IsMinimal table_entry.Encodes table_entry.bytes (filled_of (ty.now, init.now))) }
+    ensures refused { IfErr result (IsRefusal IsCountedExpr OnlyTooLong init.now) }
+    ensures kept { take (length sink.old.items) sink.new.items ≡ sink.old.items }
+{
     sink.reserve(30)?;
     sink.push_reserved(0x40);
     sink.push_reserved(0x00);
-    put_table_type(sink, &table.ty);
-    encode_expr(init.as_slice(), sink)
+    put_table_type(sink, ty);
+    encode_expr(init, sink)
 }
 
 /// The type. With an initial expression: `0x40`, `0x00`, the type and the expression (Core 3.0, Table Section).
@@ -126,6 +143,30 @@ impl Encode for Table {
     fn encode<A: Allocator>(&self, sink: &mut Vec<u8, A>) -> Result<(), EncodeError> {
         let start = sink.len();
         let result = append_table(self, sink);
+        keep_or_undo(sink, start, result)
+    }
+}
+
+/// A table that borrows its initial value, so that adding it needs no list.
+#[derive(Drop)]
+struct FilledTable<'a> {
+    ty: TableType,
+    init: &'a [Call],
+}
+
+impl Encode for FilledTable<'_> {
+    ghost bytes = { λ table. table_entry.bytes (filled_of (table.ty, table.init.now)) };
+
+    ghost IsWritten = { λ table. IsClosed table.init.now →
+        IsMinimal table_entry.Encodes table_entry.bytes (filled_of (table.ty, table.init.now)) };
+
+    ghost CanEncode = { λ table. IsCountedExpr table.init.now };
+
+    ghost refuses = { OnlyTooLong };
+
+    fn encode<A: Allocator>(&self, sink: &mut Vec<u8, A>) -> Result<(), EncodeError> {
+        let start = sink.len();
+        let result = append_filled(&self.ty, self.init, sink);
         keep_or_undo(sink, start, result)
     }
 }
@@ -180,7 +221,7 @@ impl ListSection<Table> {
     pub fn table_with_init(&mut self, ty: TableType, init: ConstExpr) -> Result<(), EncodeError>
         ensures adds { AddsCounted table_section IsCountedTable self.old (filled_of (ty, init)) self.new result }
     {
-        let init = Some(init.into_calls());
-        self.push(&Table { ty, init })
+        let calls = init.as_slice();
+        self.items.add(&FilledTable { ty, init: calls })
     }
 }

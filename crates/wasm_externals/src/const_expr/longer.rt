@@ -9,7 +9,7 @@ ghost use Rattle.wasm_externals.specs.formats.Expressions.{nested};
 ghost use Rattle.wasm_externals.specs.formats.PartCombinators.{goes_on};
 ghost use Rattle.wasm_externals.specs.Making.{Makes};
 
-use crate::const_expr::ConstExpr;
+use crate::const_expr::{Calls, ConstExpr};
 use wasm_codec::encode::EncodeError;
 use wasm_instructions::operands::{Ieee32, Ieee64, V128};
 use wasm_instructions::table::{Call, Opcode, Operands};
@@ -181,11 +181,10 @@ impl ConstExpr {
         requires flat { (depth : ℕ) → nested depth op ≡ goes_on depth }
         ensures makes { Makes (self ++ call op immediates ∷ []) result }
     {
-        let ConstExpr { calls } = self;
-        let mut calls = calls.into_vec();
+        let mut calls = self.into_calls()?.into_vec();
         calls.push(Call::from_parts(op, immediates))?;
         Ok(ConstExpr {
-            calls: Items::from(calls),
+            calls: Calls::Many(Items::from(calls)),
         })
     }
 }
