@@ -28,11 +28,11 @@ pub struct CheckedInPlace {
 
 /// A slice that was rewritten and checked.
 #[derive(Drop)]
-struct CheckedSlice<'a> {
+pub(crate) struct CheckedSlice<'a> {
     /// The slice.
-    bytes: &'a mut [u8],
+    pub(crate) bytes: &'a mut [u8],
     /// What it was; or why it is malformed.
-    checked: Result<CheckedInPlace, DecodeError>,
+    pub(crate) checked: Result<CheckedInPlace, DecodeError>,
 }
 
 /// Replaces a module with sections of type `S` by its minimal encoding in place, and tells whether it was minimally
@@ -64,7 +64,7 @@ pub fn rewrite_and_check_module_of<S: Rewritable>(
 }
 
 /// Rewrites and checks a module, and returns the same slice.
-fn checked_module_of<'a, S: Rewritable>(bytes: &'a mut [u8]) -> CheckedSlice<'a>
+pub(crate) fn checked_module_of<'a, S: Rewritable>(bytes: &'a mut [u8]) -> CheckedSlice<'a>
     ensures same_reference { IfOk result.checked (λ _. result.bytes.ghost_name ≡ bytes.entry.ghost_name) }
     ensures len { IfOk result.checked (λ checked. checked.len ≤ length result.bytes.now) }
     ensures rewrites { RewritesInPlace (module_of S.format) (IsModulePrefixOf S.format) bytes.old result.bytes.now (len_of result.checked) }

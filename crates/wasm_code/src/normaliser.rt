@@ -1,6 +1,6 @@
 //! The normaliser of modules (Core 3.0, Modules). In a typed module, type sections are lists of entries, code
 //! sections are lists of code bodies, and other sections are bytes.
-ghost use Rattle.std.specs.Prelude.{◌≡◌, ⊤, IfErr, List, length};
+ghost use Rattle.std.specs.Prelude.{◌≡◌, IfErr, List, length};
 ghost use Rattle.std.specs.List.{AllByRecursion};
 ghost use Rattle.wasm_codec.specs.formats.Bodies.{bytes_to_end};
 ghost use Rattle.wasm_codec.specs.formats.Combinators.{made, minimal_only};
@@ -23,8 +23,8 @@ use wasm_codec::reader::cursor::Fault;
 use wasm_codec::reader::malformed::Construct;
 use wasm_codec::reader::refusal::Refusal;
 use wasm_codec::reader::{ReadError, without_memory, without_reason};
-use wasm_codec::rewriter::{Rewriter, Scanned};
-use wasm_lists::rewriting::{Joinable, Rewritable, RewritableBody, rewrite_list};
+use wasm_codec::rewriter::Rewriter;
+use wasm_lists::rewriting::{Rewritable, RewritableBody, rewrite_list};
 use wasm_types::types::TypeEntry;
 
 /// Returns the minimal encoding of a module, with its type and code sections decoded (Core 3.0, Modules).
@@ -135,15 +135,6 @@ fn rewrite_section(rewriter: &mut Rewriter) -> Result<(), Fault>
         return rewrite_section_body::<CodeBodies>(rewriter, id);
     }
     rewrite_section_body::<RawContent>(rewriter, id)
-}
-
-impl Joinable for Section {
-    ghost NeverScans = { ⊤ };
-
-    #[inline(always)]
-    fn scan(_bytes: &[u8]) -> Option<Scanned> {
-        None
-    }
 }
 
 /// The body of a type section.

@@ -1,5 +1,5 @@
 //! Readers of the header and of sections of a module (Core 3.0, Modules).
-ghost use Rattle.std.specs.Prelude.{◌≡◌, ◌++◌, ◌-◌, ◌≤◌, ⊤, List, ℕ, None, drop, IfErr, IfOk, IfSome, IfNone, refl, length};
+ghost use Rattle.std.specs.Prelude.{◌≡◌, ◌++◌, ◌-◌, ◌≤◌, List, ℕ, None, drop, IfErr, IfOk, IfSome, IfNone, refl, length};
 ghost use Rattle.wasm_codec.specs.Reading.{map_ok};
 ghost use Rattle.wasm_codec.specs.Places.{Reads};
 ghost use Rattle.wasm_codec.specs.formats.Bodies.{byte_list, bytes_to_end};
@@ -27,7 +27,7 @@ use wasm_codec::reader::cursor::{Cursor, Fault};
 use wasm_codec::reader::malformed::{Construct, Malformed, Reason, Stop};
 use wasm_codec::reader::refusal::Refusal;
 use wasm_codec::reader::{DecodeError, ReadError, without_reason};
-use wasm_codec::rewriter::{Rewriter, Scanned};
+use wasm_codec::rewriter::Rewriter;
 use wasm_lists::checking::check_joined;
 use wasm_lists::readable::Readable;
 use wasm_lists::reading::{check_joined_items, read_joined};
@@ -87,7 +87,7 @@ fn in_module(stop: Stop, bytes: &[u8]) -> DecodeError
 }
 
 /// Reads a size, and as many bytes.
-fn read_byte_list<'a>(cursor: &mut Cursor<'a>) -> Result<&'a [u8], Fault>
+pub fn read_sized_bytes<'a>(cursor: &mut Cursor<'a>) -> Result<&'a [u8], Fault>
     ensures reads { Reads byte_list.at cursor.old cursor.new (map_ok (λ body. body.now) result) }
     ensures err { IfErr result IsMalformed }
 {
@@ -103,7 +103,7 @@ pub fn read_section<'a>(cursor: &mut Cursor<'a>) -> Result<RawSection<'a>, Fault
     ensures err { IfErr result IsMalformed }
 {
     let id = cursor.byte_of(Construct::SectionId)?;
-    let body = read_byte_list(cursor)?;
+    let body = read_sized_bytes(cursor)?;
     Ok(RawSection { id, body })
 }
 
@@ -343,15 +343,6 @@ pub fn rewrite_raw_section(rewriter: &mut Rewriter) -> Result<(), Fault>
 {
     let id = rewriter.byte_of(Construct::SectionId)?;
     rewrite_section_body::<RawBytes>(rewriter, id)
-}
-
-impl Joinable for Section {
-    ghost NeverScans = { ⊤ };
-
-    #[inline(always)]
-    fn scan(_bytes: &[u8]) -> Option<Scanned> {
-        None
-    }
 }
 
 /// A body whose bytes stay as they are.

@@ -3,7 +3,6 @@ ghost use Rattle.std.specs.Prelude.{◌≡◌, ◌∷◌, ◌++◌, Bool, [], re
 ghost use Rattle.wasm_codec.specs.Encoding.{IsCount, IsCountRefusal, IsMinimal, OnlyTooLong};
 ghost use Rattle.wasm_codec.specs.Lawful.{IsLawful};
 ghost use Rattle.wasm_codec.specs.Places.{Reads};
-ghost use Rattle.wasm_codec.specs.Rewriter.{Rewrites};
 ghost use Rattle.wasm_codec.specs.Outcomes.{IsMalformed};
 ghost use Rattle.wasm_codec.specs.formats.Bodies.{sized};
 ghost use Rattle.wasm_custom_sections.specs.Gaining.{AddsNamed};
@@ -20,9 +19,9 @@ use wasm_codec::reader::malformed::Construct;
 use wasm_codec::rewriter::Rewriter;
 use wasm_lists::encode::{Encode, encode_list};
 use wasm_lists::list::Items;
-use wasm_lists::readable::Readable;
+use wasm_lists::readable::{Item, Readable};
 use wasm_lists::reading::read_list;
-use wasm_lists::rewriting::{Rewritable, RewritableBody, rewrite_list, rewrite_sized};
+use wasm_lists::rewriting::{RewritableBody, rewrite_list, rewrite_sized};
 
 /// A hint for a `br_if` or an `if`.
 #[derive(Clone, Copy, Debug, PartialEq, Eq)]
@@ -90,28 +89,6 @@ impl RewritableBody for HintValue {
     }
 }
 
-/// Reads a hint.
-#[tactic(auto, unfolding(crate::specs::formats::BranchHints::branch_hint))]
-fn read_hint(cursor: &mut Cursor<'_>) -> Result<BranchHint, Fault>
-    ensures reads { Reads branch_hint.at cursor.old cursor.new result }
-{
-    let branch_func_offset = cursor.u32()?;
-    let likely = read_sized_value(cursor)?;
-    Ok(BranchHint {
-        branch_func_offset,
-        likely,
-    })
-}
-
-/// Rewrites a hint to its minimal encoding.
-#[tactic(auto, using(std::proofs::Common::append_assoc), unfolding(crate::specs::formats::BranchHints::branch_hint))]
-fn rewrite_hint(rewriter: &mut Rewriter) -> Result<(), Fault>
-    ensures rewrites { Rewrites branch_hint rewriter.old rewriter.new result }
-{
-    rewriter.u32()?;
-    rewrite_sized::<HintValue>(rewriter)
-}
-
 impl<'a> Readable<'a> for BranchHint {
     ghost Value = { BranchHint };
 
@@ -127,49 +104,21 @@ impl<'a> Readable<'a> for BranchHint {
     #[tactic(auto, using(crate::proofs::HintLaws::hint_is_lawful, crate::proofs::HintLaws::hint_takes))]
     fn is_lawful() {}
 
+    #[tactic(auto, unfolding(crate::specs::formats::BranchHints::branch_hint))]
     fn read(_alloc: Global, cursor: &mut Cursor<'a>) -> Result<BranchHint, Fault> {
-        read_hint(cursor)
+        let branch_func_offset = cursor.u32()?;
+        let likely = read_sized_value(cursor)?;
+        Ok(BranchHint {
+            branch_func_offset,
+            likely,
+        })
     }
 
+    #[tactic(auto, using(std::proofs::Common::append_assoc), unfolding(crate::specs::formats::BranchHints::branch_hint))]
     fn rewrite(rewriter: &mut Rewriter) -> Result<(), Fault> {
-        rewrite_hint(rewriter)
+        rewriter.u32()?;
+        rewrite_sized::<HintValue>(rewriter)
     }
-}
-
-impl Rewritable for BranchHint {
-    ghost Value = { BranchHint };
-
-    ghost format = { branch_hint };
-
-    #[inline(always)]
-    #[tactic(auto, using(crate::proofs::HintLaws::hint_is_lawful, crate::proofs::HintLaws::hint_takes))]
-    fn is_lawful() {}
-
-    fn rewrite(rewriter: &mut Rewriter) -> Result<(), Fault> {
-        rewrite_hint(rewriter)
-    }
-}
-
-/// Reads the hints for a function.
-#[tactic(auto, unfolding(crate::specs::formats::BranchHints::function_hints))]
-fn read_function_hints(alloc: Global, cursor: &mut Cursor<'_>) -> Result<FunctionHints, Fault>
-    ensures reads { Reads function_hints.at cursor.old cursor.new result }
-{
-    let function_index = cursor.u32()?;
-    let hints = read_list(alloc, cursor)?;
-    Ok(FunctionHints {
-        function_index,
-        hints,
-    })
-}
-
-/// Rewrites the hints for a function to their minimal encoding.
-#[tactic(auto, using(std::proofs::Common::append_assoc), unfolding(crate::specs::formats::BranchHints::function_hints))]
-fn rewrite_function_hints(rewriter: &mut Rewriter) -> Result<(), Fault>
-    ensures rewrites { Rewrites function_hints rewriter.old rewriter.new result }
-{
-    rewriter.u32()?;
-    rewrite_list::<BranchHint>(rewriter)
 }
 
 impl<'a> Readable<'a> for FunctionHints {
@@ -187,12 +136,20 @@ impl<'a> Readable<'a> for FunctionHints {
     #[tactic(auto, using(crate::proofs::HintLaws::hints_are_lawful, crate::proofs::HintLaws::hints_take))]
     fn is_lawful() {}
 
+    #[tactic(auto, unfolding(crate::specs::formats::BranchHints::function_hints))]
     fn read(alloc: Global, cursor: &mut Cursor<'a>) -> Result<FunctionHints, Fault> {
-        read_function_hints(alloc, cursor)
+        let function_index = cursor.u32()?;
+        let hints = read_list(alloc, cursor)?;
+        Ok(FunctionHints {
+            function_index,
+            hints,
+        })
     }
 
+    #[tactic(auto, using(std::proofs::Common::append_assoc), unfolding(crate::specs::formats::BranchHints::function_hints))]
     fn rewrite(rewriter: &mut Rewriter) -> Result<(), Fault> {
-        rewrite_function_hints(rewriter)
+        rewriter.u32()?;
+        rewrite_list::<Item<'_, BranchHint>>(rewriter)
     }
 }
 

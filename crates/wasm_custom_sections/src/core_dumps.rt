@@ -6,7 +6,6 @@ ghost use Rattle.wasm_codec.specs.Encoding.{IsCount, IsCountRefusal, IsRefusal, 
 ghost use Rattle.wasm_codec.specs.Inputs.{Passes};
 ghost use Rattle.wasm_codec.specs.Lawful.{IsLawful, IsLawfulBody};
 ghost use Rattle.wasm_codec.specs.Outcomes.{IfMalformed, IsMalformed, LiesIn, NeedsNoMemory, as_read};
-ghost use Rattle.wasm_codec.specs.Places.{Reads};
 ghost use Rattle.wasm_codec.specs.Rewriter.{Rewrites};
 ghost use Rattle.wasm_codec.specs.formats.Combinators.{minimal_only};
 ghost use Rattle.wasm_codec.specs.formats.Grammar.{TakesBytes};
@@ -124,25 +123,6 @@ fn take_module<'a, I: NameInput<'a>>(input: &mut I) -> Result<CoreDumpModule<'a>
     Ok(CoreDumpModule { name })
 }
 
-/// Reads an instance.
-#[tactic(auto, unfolding(crate::specs::formats::CoreDumps::core_instance))]
-fn read_instance(alloc: Global, cursor: &mut Cursor<'_>) -> Result<CoreDumpInstance, Fault>
-    ensures reads { Reads core_instance.at cursor.old cursor.new result }
-{
-    let byte = cursor.byte_of(Construct::Field)?;
-    if byte != 0x00 {
-        return Err(Fault::Malformed(cursor.invalid(Construct::Field, byte)));
-    }
-    let module_index = cursor.u32()?;
-    let memories = read_list(alloc, cursor)?;
-    let globals = read_list(alloc, cursor)?;
-    Ok(CoreDumpInstance {
-        module_index,
-        memories,
-        globals,
-    })
-}
-
 impl<'a> Readable<'a> for CoreDumpModule<'a> {
     ghost Value = { List ℕ };
 
@@ -188,8 +168,20 @@ impl<'a> Readable<'a> for CoreDumpInstance {
     #[tactic(auto, using(crate::proofs::CoreDumpLaws::instance_is_lawful, crate::proofs::CoreDumpLaws::instance_takes))]
     fn is_lawful() {}
 
+    #[tactic(auto, unfolding(crate::specs::formats::CoreDumps::core_instance))]
     fn read(alloc: Global, cursor: &mut Cursor<'a>) -> Result<CoreDumpInstance, Fault> {
-        read_instance(alloc, cursor)
+        let byte = cursor.byte_of(Construct::Field)?;
+        if byte != 0x00 {
+            return Err(Fault::Malformed(cursor.invalid(Construct::Field, byte)));
+        }
+        let module_index = cursor.u32()?;
+        let memories = read_list(alloc, cursor)?;
+        let globals = read_list(alloc, cursor)?;
+        Ok(CoreDumpInstance {
+            module_index,
+            memories,
+            globals,
+        })
     }
 
     #[tactic(auto, using(std::proofs::Common::append_assoc), unfolding(crate::specs::formats::CoreDumps::core_instance))]

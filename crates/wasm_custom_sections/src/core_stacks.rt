@@ -5,8 +5,6 @@ ghost use Rattle.wasm_codec.specs.Decoding.{ChecksAll, TakesMinimal, RewritesInP
 ghost use Rattle.wasm_codec.specs.Encoding.{IsCount, IsCountRefusal, IsRefusal, IsMinimal, OnlyTooLong};
 ghost use Rattle.wasm_codec.specs.Lawful.{IsLawful, IsLawfulBody};
 ghost use Rattle.wasm_codec.specs.Outcomes.{IfMalformed, LiesIn, NeedsNoMemory, as_read};
-ghost use Rattle.wasm_codec.specs.Places.{Reads};
-ghost use Rattle.wasm_codec.specs.Reading.{map_ok};
 ghost use Rattle.wasm_codec.specs.Rewriter.{Rewrites};
 ghost use Rattle.wasm_codec.specs.formats.Combinators.{minimal_only};
 ghost use Rattle.wasm_codec.specs.formats.Grammar.{TakesBytes};
@@ -20,7 +18,6 @@ ghost use Rattle.wasm_custom_sections.specs.declared.core_stacks.CoreDumpStackFr
 ghost use Rattle.wasm_custom_sections.specs.formats.CoreStacks.{StackParts, all_stack_parts, core_frame, core_stack, frame_of, stack_parts};
 
 use crate::core_values::CoreDumpValue;
-use crate::counted_bytes::CountedBytes;
 use crate::whole_values::{Whole, append_named, read_value_to_end};
 use std::alloc::{Allocator, Global};
 use std::marker::Model;
@@ -33,6 +30,7 @@ use wasm_codec::reader::malformed::Construct;
 use wasm_codec::rewriter::Rewriter;
 use wasm_externals::names::{append_name, read_name, rewrite_name};
 use wasm_lists::encode::{Encode, encode_list};
+use wasm_lists::encoded_list::{Counted, EncodedList};
 use wasm_lists::list::Items;
 use wasm_lists::readable::{Item, Readable};
 use wasm_lists::reading::read_list;
@@ -63,29 +61,6 @@ pub struct CoreDumpStack<'a> {
     pub frames: Items<CoreDumpStackFrame>,
 }
 
-/// Reads a frame.
-#[tactic(auto, unfolding(crate::specs::formats::CoreStacks::core_frame))]
-fn read_frame(alloc: Global, cursor: &mut Cursor<'_>) -> Result<CoreDumpStackFrame, Fault>
-    ensures reads { Reads core_frame.at cursor.old cursor.new result }
-{
-    let byte = cursor.byte_of(Construct::Field)?;
-    if byte != 0x00 {
-        return Err(Fault::Malformed(cursor.invalid(Construct::Field, byte)));
-    }
-    let instance_index = cursor.u32()?;
-    let function_index = cursor.u32()?;
-    let code_offset = cursor.u32()?;
-    let locals = read_list(alloc, cursor)?;
-    let stack = read_list(alloc, cursor)?;
-    Ok(CoreDumpStackFrame {
-        instance_index,
-        function_index,
-        code_offset,
-        locals,
-        stack,
-    })
-}
-
 impl<'a> Readable<'a> for CoreDumpStackFrame {
     ghost Value = { CoreDumpStackFrame };
 
@@ -101,8 +76,24 @@ impl<'a> Readable<'a> for CoreDumpStackFrame {
     #[tactic(auto, using(crate::proofs::CoreStackLaws::frame_is_lawful, crate::proofs::CoreStackLaws::frame_takes))]
     fn is_lawful() {}
 
+    #[tactic(auto, unfolding(crate::specs::formats::CoreStacks::core_frame))]
     fn read(alloc: Global, cursor: &mut Cursor<'a>) -> Result<CoreDumpStackFrame, Fault> {
-        read_frame(alloc, cursor)
+        let byte = cursor.byte_of(Construct::Field)?;
+        if byte != 0x00 {
+            return Err(Fault::Malformed(cursor.invalid(Construct::Field, byte)));
+        }
+        let instance_index = cursor.u32()?;
+        let function_index = cursor.u32()?;
+        let code_offset = cursor.u32()?;
+        let locals = read_list(alloc, cursor)?;
+        let stack = read_list(alloc, cursor)?;
+        Ok(CoreDumpStackFrame {
+            instance_index,
+            function_index,
+            code_offset,
+            locals,
+            stack,
+        })
     }
 
     #[tactic(auto, using(std::proofs::Common::append_assoc), unfolding(crate::specs::formats::CoreStacks::core_frame))]
@@ -119,33 +110,6 @@ impl<'a> Readable<'a> for CoreDumpStackFrame {
         rewrite_list::<Item<'static, CoreDumpValue>>(rewriter)?;
         rewrite_list::<Item<'static, CoreDumpValue>>(rewriter)
     }
-}
-
-/// Reads a thread and its frames.
-#[tactic(auto, unfolding(crate::specs::formats::CoreStacks::core_stack))]
-fn read_stack<'a>(alloc: Global, cursor: &mut Cursor<'a>) -> Result<CoreDumpStack<'a>, Fault>
-    ensures reads { Reads core_stack.at cursor.old cursor.new (map_ok stack_parts result) }
-{
-    let byte = cursor.byte_of(Construct::Field)?;
-    if byte != 0x00 {
-        return Err(Fault::Malformed(cursor.invalid(Construct::Field, byte)));
-    }
-    let name = read_name(cursor)?;
-    let frames = read_list(alloc, cursor)?;
-    Ok(CoreDumpStack { name, frames })
-}
-
-/// Rewrites a thread and its frames to their minimal encoding.
-#[tactic(auto, using(std::proofs::Common::append_assoc), unfolding(crate::specs::formats::CoreStacks::core_stack))]
-fn rewrite_stack(rewriter: &mut Rewriter) -> Result<(), Fault>
-    ensures rewrites { Rewrites core_stack rewriter.old rewriter.new result }
-{
-    let byte = rewriter.byte_of(Construct::Field)?;
-    if byte != 0x00 {
-        return Err(Fault::Malformed(rewriter.invalid(Construct::Field, byte)));
-    }
-    rewrite_name(rewriter)?;
-    rewrite_list::<Item<'static, CoreDumpStackFrame>>(rewriter)
 }
 
 impl<'a> Readable<'a> for CoreDumpStack<'a> {
@@ -166,14 +130,27 @@ impl<'a> Readable<'a> for CoreDumpStack<'a> {
         ensures some { TakesBytes core_stack.Encodes }
     {}
 
+    #[tactic(auto, unfolding(crate::specs::formats::CoreStacks::core_stack))]
     fn read(alloc: Global, cursor: &mut Cursor<'a>) -> Result<CoreDumpStack<'a>, Fault> {
-        read_stack(alloc, cursor)
+        let byte = cursor.byte_of(Construct::Field)?;
+        if byte != 0x00 {
+            return Err(Fault::Malformed(cursor.invalid(Construct::Field, byte)));
+        }
+        let name = read_name(cursor)?;
+        let frames = read_list(alloc, cursor)?;
+        Ok(CoreDumpStack { name, frames })
     }
 
+    #[tactic(auto, using(std::proofs::Common::append_assoc), unfolding(crate::specs::formats::CoreStacks::core_stack))]
     fn rewrite(rewriter: &mut Rewriter) -> Result<(), Fault>
         ensures rewrites { Rewrites core_stack rewriter.old rewriter.new result }
     {
-        rewrite_stack(rewriter)
+        let byte = rewriter.byte_of(Construct::Field)?;
+        if byte != 0x00 {
+            return Err(Fault::Malformed(rewriter.invalid(Construct::Field, byte)));
+        }
+        rewrite_name(rewriter)?;
+        rewrite_list::<Item<'static, CoreDumpStackFrame>>(rewriter)
     }
 }
 
@@ -254,7 +231,7 @@ impl<'a> Encode for FrameOf<'a> {
 #[derive(Debug, Drop)]
 pub struct CoreDumpStackSection<'a> {
     name: &'a str,
-    frames: CountedBytes,
+    frames: EncodedList,
 }
 
 impl<'a> Model for CoreDumpStackSection<'a> {
@@ -274,7 +251,7 @@ impl<'a> CoreDumpStackSection<'a> {
     {
         CoreDumpStackSection {
             name,
-            frames: CountedBytes::new(alloc),
+            frames: EncodedList::new(alloc),
         }
     }
 
@@ -358,7 +335,7 @@ impl<'a> CoreDumpStackSection<'a> {
 #[derive(Drop)]
 struct StackContents<'a> {
     name: &'a str,
-    frames: &'a CountedBytes,
+    frames: &'a EncodedList,
 }
 
 /// Appends the contents of a section. On error a part of them may remain.
@@ -375,7 +352,7 @@ fn append_contents<A: Allocator>(
     sink.reserve(1)?;
     sink.push_reserved(0x00);
     append_name(item.name, sink)?;
-    item.frames.encode(sink)
+    Counted { list: item.frames }.encode(sink)
 }
 
 /// The byte 0x00, the name of the thread, the number of frames, and the frames.

@@ -10,7 +10,6 @@ ghost use Rattle.wasm_lists.specs.EncodedLists.{body_bytes};
 ghost use Rattle.wasm_sections.specs.ListSections.{StandsForItems};
 ghost use Rattle.wasm_custom_sections.specs.NamedSections.{CountedNamed, HoldsList, IsNamedSection, named_bytes};
 
-use crate::counted_bytes::CountedBytes;
 use std::alloc::{Allocator, Global};
 use std::marker::{Model, PhantomData};
 use wasm_code::decode::Decode;
@@ -18,6 +17,7 @@ use wasm_codec::encode::EncodeError;
 use wasm_codec::reader::DecodeError;
 use wasm_lists::checking::check_list_to_end;
 use wasm_lists::encode::Encode;
+use wasm_lists::encoded_list::EncodedList;
 use wasm_lists::readable::{Item, Readable};
 use wasm_lists::reading::read_list_to_end;
 use wasm_lists::rewriting::rewrite_list_to_end;
@@ -57,7 +57,7 @@ pub trait CustomItem {
 /// section is the number of its items and their bytes.
 #[derive(Debug, Drop)]
 pub struct CustomList<T> {
-    pub(crate) items: CountedBytes,
+    pub(crate) items: EncodedList,
     _item: PhantomData<T>,
 }
 
@@ -76,7 +76,7 @@ impl<T: CustomItem> CustomList<T> {
         ensures { StandsForItems T.format result [] }
     {
         CustomList {
-            items: CountedBytes::new(alloc),
+            items: EncodedList::new(alloc),
             _item: PhantomData,
         }
     }

@@ -7,7 +7,6 @@ pub mod contents;
 pub mod core_dumps;
 pub mod core_stacks;
 pub mod core_values;
-pub mod counted_bytes;
 pub mod custom_list;
 pub mod known;
 pub mod linking;

@@ -23,7 +23,6 @@ ghost use Rattle.wasm_custom_sections.specs.NamedSections.{CountedNamed, IsNamed
 ghost use Rattle.wasm_custom_sections.specs.formats.Linking.{LinkingParts, all_linking_parts, linking_data, linking_if, linking_parts, linking_subsection, symbols, version, versioned};
 ghost use Rattle.wasm_custom_sections.specs.formats.Symbols.{symbol};
 
-use crate::counted_bytes::CountedBytes;
 use crate::sized::read_sized_bytes;
 use crate::symbol_table::SymbolTable;
 use crate::symbols::Symbol;
@@ -36,9 +35,10 @@ use wasm_codec::reader::DecodeError;
 use wasm_codec::reader::cursor::{Cursor, Fault};
 use wasm_codec::reader::malformed::{Construct, Malformed, Reason};
 use wasm_codec::reader::refusal::Refusal;
-use wasm_codec::rewriter::{Finished, Rewriter, Scanned};
+use wasm_codec::rewriter::{Rewriter, Scanned};
 use wasm_lists::checking::check_items_to_end;
 use wasm_lists::encode::Encode;
+use wasm_lists::encoded_list::EncodedList;
 use wasm_lists::list::Items;
 use wasm_lists::readable::{Item, Readable};
 use wasm_lists::reading::read_items_to_end;
@@ -260,17 +260,8 @@ fn rewritten_linking<'a>(bytes: &'a mut [u8]) -> Rewritten<'a>
 {
     let mut rewriter = Rewriter::new(bytes);
     match rewrite_whole_linking(&mut rewriter) {
-        Ok(()) => {
-            let Finished { bytes, len } = rewriter.finish();
-            Rewritten {
-                bytes,
-                len: Ok(len),
-            }
-        }
-        Err(error) => Rewritten {
-            bytes: rewriter.finish().bytes,
-            len: Err(error),
-        },
+        Ok(()) => Rewritten::new(rewriter, Ok(())),
+        Err(error) => Rewritten::new(rewriter, Err(error)),
     }
 }
 
@@ -326,7 +317,7 @@ fn rewrite_whole_linking(rewriter: &mut Rewriter) -> Result<(), DecodeError>
 /// ```
 #[derive(Debug, Drop)]
 pub struct LinkingSection {
-    subsections: CountedBytes,
+    subsections: EncodedList,
 }
 
 impl Model for LinkingSection {
@@ -344,7 +335,7 @@ impl LinkingSection {
         ensures { StandsForItems linking_subsection result [] }
     {
         LinkingSection {
-            subsections: CountedBytes::new(alloc),
+            subsections: EncodedList::new(alloc),
         }
     }
 

@@ -5,8 +5,6 @@ ghost use Rattle.wasm_codec.specs.Encoding.{IsCount, IsCountRefusal, IsRefusal, 
 ghost use Rattle.wasm_codec.specs.Lawful.{IsLawful};
 ghost use Rattle.wasm_codec.specs.Leb128.{unsigned_leb128};
 ghost use Rattle.wasm_codec.specs.Inputs.{Passes};
-ghost use Rattle.wasm_codec.specs.Places.{Reads};
-ghost use Rattle.wasm_codec.specs.Reading.{map_ok};
 ghost use Rattle.wasm_codec.specs.Rewriter.{Rewrites};
 ghost use Rattle.wasm_codec.specs.declared.encode.EncodeError.TheVariants.{Memory};
 ghost use Rattle.wasm_codec.specs.Outcomes.{IsMalformed};
@@ -19,7 +17,6 @@ ghost use Rattle.wasm_custom_sections.specs.WrittenNames.{AreCountedNames};
 ghost use Rattle.wasm_custom_sections.specs.formats.NameParts.{NamingParts, naming_parts, all_naming_parts, IndirectParts, indirect_parts, all_indirect_parts};
 ghost use Rattle.wasm_custom_sections.specs.formats.Names.{naming, naming_of, indirect_naming, indirect_of};
 
-use crate::counted_bytes::CountedBytes;
 use std::alloc::{Allocator, Global};
 use std::marker::Model;
 use wasm_codec::encode::leb128::put_u32;
@@ -28,6 +25,7 @@ use wasm_codec::reader::cursor::{Cursor, Fault};
 use wasm_codec::rewriter::Rewriter;
 use wasm_externals::names::{NameInput, append_name};
 use wasm_lists::encode::{Encode, encode_list};
+use wasm_lists::encoded_list::{Counted, EncodedList};
 use wasm_lists::list::Items;
 use wasm_lists::readable::{Item, Readable};
 use wasm_lists::reading::read_list;
@@ -92,19 +90,6 @@ impl<'a> Readable<'a> for Naming<'a> {
     }
 }
 
-/// Reads names inside an item.
-#[tactic(auto, unfolding(crate::specs::formats::Names::indirect_naming))]
-fn read_indirect_naming<'a>(
-    alloc: Global,
-    cursor: &mut Cursor<'a>,
-) -> Result<IndirectNaming<'a>, Fault>
-    ensures reads { Reads indirect_naming.at cursor.old cursor.new (map_ok indirect_parts result) }
-{
-    let index = cursor.u32()?;
-    let names = read_list(alloc, cursor)?;
-    Ok(IndirectNaming { index, names })
-}
-
 /// Rewrites names inside an item to their minimal encoding.
 #[tactic(auto, using(std::proofs::Common::append_assoc), unfolding(crate::specs::formats::Names::indirect_naming))]
 fn rewrite_indirect_naming(rewriter: &mut Rewriter) -> Result<(), Fault>
@@ -132,8 +117,11 @@ impl<'a> Readable<'a> for IndirectNaming<'a> {
         ensures some { TakesBytes indirect_naming.Encodes }
     {}
 
+    #[tactic(auto, unfolding(crate::specs::formats::Names::indirect_naming))]
     fn read(alloc: Global, cursor: &mut Cursor<'a>) -> Result<IndirectNaming<'a>, Fault> {
-        read_indirect_naming(alloc, cursor)
+        let index = cursor.u32()?;
+        let names = read_list(alloc, cursor)?;
+        Ok(IndirectNaming { index, names })
     }
 
     fn rewrite(rewriter: &mut Rewriter) -> Result<(), Fault>
@@ -244,7 +232,7 @@ impl<'a> Encode for IndirectNaming<'a> {
 /// ```
 #[derive(Debug, Drop)]
 pub struct NameMap {
-    names: CountedBytes,
+    names: EncodedList,
 }
 
 impl Model for NameMap {
@@ -262,7 +250,7 @@ impl NameMap {
         ensures { StandsForItems naming result [] }
     {
         NameMap {
-            names: CountedBytes::new(alloc),
+            names: EncodedList::new(alloc),
         }
     }
 
@@ -312,7 +300,7 @@ impl Encode for NameMap {
         ensures refused { IfErr result (λ e. e ≡ Memory) }
         ensures err { OnErr result (sink.new.items ≡ sink.old.items) }
     {
-        self.names.encode(sink)
+        Counted { list: &self.names }.encode(sink)
     }
 }
 
@@ -370,7 +358,7 @@ fn append_item_names<A: Allocator>(
 /// ```
 #[derive(Debug, Drop)]
 pub struct IndirectNameMap {
-    items: CountedBytes,
+    items: EncodedList,
 }
 
 impl Model for IndirectNameMap {
@@ -388,7 +376,7 @@ impl IndirectNameMap {
         ensures { StandsForItems indirect_naming result [] }
     {
         IndirectNameMap {
-            items: CountedBytes::new(alloc),
+            items: EncodedList::new(alloc),
         }
     }
 
@@ -438,6 +426,6 @@ impl Encode for IndirectNameMap {
         ensures refused { IfErr result (λ e. e ≡ Memory) }
         ensures err { OnErr result (sink.new.items ≡ sink.old.items) }
     {
-        self.items.encode(sink)
+        Counted { list: &self.items }.encode(sink)
     }
 }

@@ -4,8 +4,6 @@ ghost use Rattle.std.proofs.lemmas.List.{map_push};
 ghost use Rattle.wasm_codec.specs.Encoding.{IsCount, IsRefusal, IsCountRefusal, IsMinimal, OnlyTooLong};
 ghost use Rattle.wasm_codec.specs.Lawful.{IsLawful};
 ghost use Rattle.wasm_codec.specs.Inputs.{Passes};
-ghost use Rattle.wasm_codec.specs.Places.{Reads};
-ghost use Rattle.wasm_codec.specs.Reading.{map_ok};
 ghost use Rattle.wasm_codec.specs.Rewriter.{Rewrites};
 ghost use Rattle.wasm_codec.specs.Outcomes.{IsMalformed};
 ghost use Rattle.wasm_codec.specs.formats.Grammar.{TakesBytes};
@@ -17,7 +15,6 @@ ghost use Rattle.wasm_custom_sections.specs.Gaining.{GainsWith};
 ghost use Rattle.wasm_custom_sections.specs.formats.ProducerParts.{FieldParts, ProducerParts, all_field_parts, all_producer_parts, field_parts, producer_parts};
 ghost use Rattle.wasm_custom_sections.specs.formats.Producers.{field_of, producer, producer_of, producers_field};
 
-use crate::counted_bytes::CountedBytes;
 use crate::custom_list::{CustomItem, CustomList};
 use std::alloc::{Allocator, Global};
 use std::marker::Model;
@@ -26,6 +23,7 @@ use wasm_codec::reader::cursor::{Cursor, Fault};
 use wasm_codec::rewriter::Rewriter;
 use wasm_externals::names::{NameInput, append_name, read_name, rewrite_name};
 use wasm_lists::encode::Encode;
+use wasm_lists::encoded_list::{Counted, EncodedList};
 use wasm_lists::list::Items;
 use wasm_lists::readable::{Item, Readable};
 use wasm_lists::reading::read_list;
@@ -90,25 +88,6 @@ impl<'a> Readable<'a> for Producer<'a> {
     }
 }
 
-/// Reads a field.
-#[tactic(auto, unfolding(crate::specs::formats::Producers::producers_field))]
-fn read_producers<'a>(alloc: Global, cursor: &mut Cursor<'a>) -> Result<Producers<'a>, Fault>
-    ensures reads { Reads producers_field.at cursor.old cursor.new (map_ok field_parts result) }
-{
-    let field = read_name(cursor)?;
-    let values = read_list(alloc, cursor)?;
-    Ok(Producers { field, values })
-}
-
-/// Rewrites a field to its minimal encoding.
-#[tactic(auto, using(std::proofs::Common::append_assoc), unfolding(crate::specs::formats::Producers::producers_field))]
-fn rewrite_producers(rewriter: &mut Rewriter) -> Result<(), Fault>
-    ensures rewrites { Rewrites producers_field rewriter.old rewriter.new result }
-{
-    rewrite_name(rewriter)?;
-    rewrite_list::<Item<'static, Producer<'static>>>(rewriter)
-}
-
 impl<'a> Readable<'a> for Producers<'a> {
     ghost Value = { FieldParts };
 
@@ -127,14 +106,19 @@ impl<'a> Readable<'a> for Producers<'a> {
         ensures some { TakesBytes producers_field.Encodes }
     {}
 
+    #[tactic(auto, unfolding(crate::specs::formats::Producers::producers_field))]
     fn read(alloc: Global, cursor: &mut Cursor<'a>) -> Result<Producers<'a>, Fault> {
-        read_producers(alloc, cursor)
+        let field = read_name(cursor)?;
+        let values = read_list(alloc, cursor)?;
+        Ok(Producers { field, values })
     }
 
+    #[tactic(auto, using(std::proofs::Common::append_assoc), unfolding(crate::specs::formats::Producers::producers_field))]
     fn rewrite(rewriter: &mut Rewriter) -> Result<(), Fault>
         ensures rewrites { Rewrites producers_field rewriter.old rewriter.new result }
     {
-        rewrite_producers(rewriter)
+        rewrite_name(rewriter)?;
+        rewrite_list::<Item<'static, Producer<'static>>>(rewriter)
     }
 }
 
@@ -206,7 +190,7 @@ impl<'a> Encode for Producer<'a> {
 /// ```
 #[derive(Debug, Drop)]
 pub struct ProducersField {
-    values: CountedBytes,
+    values: EncodedList,
 }
 
 impl Model for ProducersField {
@@ -224,7 +208,7 @@ impl ProducersField {
         ensures { StandsForItems producer result [] }
     {
         ProducersField {
-            values: CountedBytes::new(alloc),
+            values: EncodedList::new(alloc),
         }
     }
 
@@ -269,7 +253,7 @@ impl Encode for ProducersField {
     ghost IsWritten = { λ field. IsCount field.count };
 
     fn encode<A: Allocator>(&self, sink: &mut Vec<u8, A>) -> Result<(), EncodeError> {
-        self.values.encode(sink)
+        Counted { list: &self.values }.encode(sink)
     }
 }
 

@@ -6,11 +6,11 @@ ghost use Rattle.wasm_codec.specs.Lists.{items_bytes};
 ghost use Rattle.wasm_codec.specs.Places.{Reads};
 ghost use Rattle.wasm_codec.specs.Reading.{map_ok};
 ghost use Rattle.wasm_codec.specs.declared.encode.EncodeError.TheVariants.{TooLong};
-ghost use Rattle.wasm_codec.specs.Outcomes.{IsMalformed};
-ghost use Rattle.wasm_codec.specs.formats.Bodies.{sized, byte_list};
+ghost use Rattle.wasm_codec.specs.formats.Bodies.{sized};
 ghost use Rattle.wasm_externals.specs.formats.Names.{name};
 
 use std::alloc::Allocator;
+pub(crate) use wasm_code::raw::read_sized_bytes;
 use wasm_codec::encode::{EncodeError, put_size_before};
 use wasm_codec::reader::cursor::{Cursor, Fault};
 use wasm_codec::rewriter::Rewriter;
@@ -29,16 +29,6 @@ pub(crate) fn read_sized_name<'a>(cursor: &mut Cursor<'a>) -> Result<&'a str, Fa
     }
     cursor.set_minimal(body.is_minimal());
     Ok(text)
-}
-
-/// Reads bytes that follow their number.
-pub(crate) fn read_sized_bytes<'a>(cursor: &mut Cursor<'a>) -> Result<&'a [u8], Fault>
-    ensures reads { Reads byte_list.at cursor.old cursor.new (map_ok (λ bytes. bytes.now) result) }
-    ensures err { IfErr result IsMalformed }
-{
-    let start = cursor.to_end();
-    let size = cursor.u32()?;
-    cursor.take_sized(size, start)
 }
 
 /// A name that fills a body.

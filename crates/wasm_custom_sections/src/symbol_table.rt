@@ -12,7 +12,6 @@ ghost use Rattle.wasm_custom_sections.specs.LinkingSections.{AddsSymbol, CanName
 ghost use Rattle.wasm_custom_sections.specs.formats.SymbolParts.{data_object, data_parts, function, global, item_parts, section as section_entry, symbol_parts, table, tag};
 ghost use Rattle.wasm_custom_sections.specs.formats.Symbols.{data_of, data_symbol, definition as definition_format, Agrees, ItemAgrees, DataAgrees, has_name as names_item, is_defined as defines, item_of, item_symbol, section_of, section_symbol, symbol};
 
-use crate::counted_bytes::CountedBytes;
 use crate::sized::append_subsection;
 use crate::symbols::{
     DataSymbol, DataSymbolDefinition, ItemSymbol, SectionSymbol, Symbol, has_name, is_defined,
@@ -23,6 +22,7 @@ use wasm_codec::encode::leb128::put_u32;
 use wasm_codec::encode::{EncodeError, keep_or_undo};
 use wasm_externals::names::append_name;
 use wasm_lists::encode::Encode;
+use wasm_lists::encoded_list::{Counted, EncodedList};
 
 /// Appends a name if it is there and a flag says so. Appends nothing if it fails.
 #[tactic(auto, using(crate::proofs::SymbolLaws::no_more, crate::proofs::SymbolLaws::name_there), unfolding(wasm_externals::specs::formats::PartCombinators::part_if))]
@@ -195,7 +195,7 @@ fn fits_flags(symbol: &Symbol<'_>) -> bool
 /// ```
 #[derive(Debug, Drop)]
 pub struct SymbolTable {
-    symbols: CountedBytes,
+    symbols: EncodedList,
 }
 
 impl Model for SymbolTable {
@@ -232,7 +232,7 @@ impl SymbolTable {
         ensures { StandsForItems symbol result [] }
     {
         SymbolTable {
-            symbols: CountedBytes::new(alloc),
+            symbols: EncodedList::new(alloc),
         }
     }
 
@@ -350,7 +350,10 @@ impl Encode for SymbolTable {
 
     fn encode<A: Allocator>(&self, sink: &mut Vec<u8, A>) -> Result<(), EncodeError> {
         let start = sink.len();
-        let result = append_subsection(8, &self.symbols, sink);
+        let table = Counted {
+            list: &self.symbols,
+        };
+        let result = append_subsection(8, &table, sink);
         keep_or_undo(sink, start, result)
     }
 }

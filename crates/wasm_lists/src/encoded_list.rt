@@ -56,12 +56,28 @@ impl EncodedList {
         self.bytes.as_slice()
     }
 
+    /// Returns the allocator of the list.
+    pub fn allocator(&self) -> Global {
+        *self.bytes.allocator()
+    }
+
+    /// Returns the number of values and their bytes, as one list of bytes. Fails with `Memory` if it can't allocate.
+    pub fn to_bytes(&self) -> Result<Vec<u8>, EncodeError>
+        ensures ok { IfOk result (λ bytes. bytes.items ≡ body_bytes self.now) }
+        ensures few { IfOk result (λ _. IsCount self.now.count) }
+        ensures err { IfErr result (λ e. e ≡ Memory) }
+    {
+        let mut bytes = Vec::new(self.allocator());
+        Counted { list: self }.encode(&mut bytes)?;
+        Ok(bytes)
+    }
+
     /// Copies the list. Fails with `Memory` if it can't allocate.
     pub fn try_clone(&self) -> Result<EncodedList, EncodeError>
         ensures ok { IfOk result (λ list. list ≡ self.now) }
         ensures err { IfErr result (λ e. e ≡ Memory) }
     {
-        let bytes = Vec::from_slice(*self.bytes.allocator(), self.bytes.as_slice())?;
+        let bytes = Vec::from_slice(self.allocator(), self.bytes.as_slice())?;
         Ok(EncodedList {
             bytes,
             count: self.count,
@@ -261,6 +277,28 @@ impl Encode for EncodedList {
         put_u32(sink, told);
         put_u32(sink, self.count);
         sink.extend_from_slice(self.bytes.as_slice())?;
+        Ok(())
+    }
+}
+
+/// A list of encoded values as a part of another value: no size precedes it.
+#[derive(Clone, Copy)]
+pub struct Counted<'a> {
+    /// The list.
+    pub list: &'a EncodedList,
+}
+
+/// The number of values, and the values (Core 3.0, Lists).
+impl<'a> Encode for Counted<'a> {
+    ghost bytes = { λ part. body_bytes part.list.now };
+
+    ghost IsWritten = { λ part. IsCount part.list.now.count };
+
+    fn encode<A: Allocator>(&self, sink: &mut Vec<u8, A>) -> Result<(), EncodeError> {
+        let list = self.list;
+        sink.reserve(5 + list.bytes.len())?;
+        put_u32(sink, list.count);
+        sink.extend_from_slice(list.bytes.as_slice())?;
         Ok(())
     }
 }

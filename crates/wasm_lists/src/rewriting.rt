@@ -1,5 +1,5 @@
 //! Lists and bodies, rewritten in place.
-ghost use Rattle.std.specs.Prelude.{◌≡◌, ◌-◌, ◌<◌, ◌≤◌, ⊤, List, ℕ, length, take, true, false, Some, IfSome, IsNone, IfOk, IfErr};
+ghost use Rattle.std.specs.Prelude.{◌≡◌, ◌-◌, ◌<◌, ◌≤◌, ⊤, List, ℕ, length, take, true, false, Some, IfSome, IsNone, Ok, Err, IfOk, IfErr, OnOk};
 ghost use Rattle.std.specs.List.{flat_map};
 ghost use Rattle.wasm_codec.specs.formats.Grammar.{TakesBytes, Joined};
 ghost use Rattle.wasm_codec.specs.Outcomes.{IfMalformed, IfInItem, LiesIn, NamesItem, as_read, IfRefused, NeedsNoMemory, IsLongestPrefix, IsNormalForm, EncodesSome};
@@ -313,6 +313,24 @@ pub struct Rewritten<'a> {
     pub len: Result<usize, DecodeError>,
 }
 
+impl<'a> Rewritten<'a> {
+    /// Returns the slice of a rewriter, and this outcome of its work.
+    pub fn new(rewriter: Rewriter<'a>, outcome: Result<(), DecodeError>) -> Rewritten<'a>
+        ensures same_reference { result.bytes.ghost_name ≡ rewriter.entry.rest.name }
+        ensures ok { OnOk outcome (result.len ≡ Ok (length rewriter.entry.done)) }
+        ensures err { IfErr outcome (λ e. result.len ≡ Err e) }
+        ensures within { length rewriter.entry.done ≤ length result.bytes.now }
+        ensures done { take (length rewriter.entry.done) result.bytes.now ≡ rewriter.entry.done }
+    {
+        let Finished { bytes, len } = rewriter.finish();
+        let len = match outcome {
+            Ok(()) => Ok(len),
+            Err(error) => Err(error),
+        };
+        Rewritten { bytes, len }
+    }
+}
+
 /// Replaces the items that the bytes encode one after another, without a count, by their minimal encodings in place.
 /// Returns the length of these, which begin the slice.
 ///
@@ -345,17 +363,8 @@ fn rewritten_items<'a, T: Joinable>(bytes: &'a mut [u8]) -> Rewritten<'a>
     let mut rewriter = Rewriter::new(bytes);
     rewriter.are_bytes();
     match rewrite_joined::<T>(&mut rewriter) {
-        Ok(()) => {
-            let Finished { bytes, len } = rewriter.finish();
-            Rewritten {
-                bytes,
-                len: Ok(len),
-            }
-        }
-        Err(stop) => Rewritten {
-            bytes: rewriter.finish().bytes,
-            len: Err(DecodeError::stopped(stop, all)),
-        },
+        Ok(()) => Rewritten::new(rewriter, Ok(())),
+        Err(stop) => Rewritten::new(rewriter, Err(DecodeError::stopped(stop, all))),
     }
 }
 
@@ -388,17 +397,8 @@ fn rewritten_list<'a, T: Rewritable>(bytes: &'a mut [u8]) -> Rewritten<'a>
 {
     let mut rewriter = Rewriter::new(bytes);
     match rewrite_whole_list::<T>(&mut rewriter) {
-        Ok(()) => {
-            let Finished { bytes, len } = rewriter.finish();
-            Rewritten {
-                bytes,
-                len: Ok(len),
-            }
-        }
-        Err(error) => Rewritten {
-            bytes: rewriter.finish().bytes,
-            len: Err(error),
-        },
+        Ok(()) => Rewritten::new(rewriter, Ok(())),
+        Err(error) => Rewritten::new(rewriter, Err(error)),
     }
 }
 

@@ -17,7 +17,7 @@ use wasm_code::section::HEADER;
 use wasm_codec::reader::DecodeError;
 use wasm_codec::reader::cursor::Fault;
 use wasm_codec::reader::malformed::{Construct, Malformed, Reason, Stop};
-use wasm_codec::rewriter::{Finished, Rewriter};
+use wasm_codec::rewriter::Rewriter;
 use wasm_lists::rewriting::{Rewritable, RewritableBody, Rewritten, rewrite_sized};
 use wasm_sections::module_sections::{AnySection, SectionKind, SectionVisitor, visit_section};
 
@@ -91,17 +91,11 @@ fn watched<'a, W: SectionWatcher>(bytes: &'a mut [u8], watcher: &mut W) -> Rewri
     counting.rewriter.skip(HEADER.len());
     counting.rewriter.are_bytes();
     match rewrite_sections(&mut counting, watcher) {
-        Ok(()) => {
-            let Finished { bytes, len } = counting.rewriter.finish();
-            Rewritten {
-                bytes,
-                len: Ok(len),
-            }
-        }
-        Err(stop) => Rewritten {
-            bytes: counting.rewriter.finish().bytes,
-            len: Err(DecodeError::stopped(stop, all).numbered(stop.passed)),
-        },
+        Ok(()) => Rewritten::new(counting.rewriter, Ok(())),
+        Err(stop) => Rewritten::new(
+            counting.rewriter,
+            Err(DecodeError::stopped(stop, all).numbered(stop.passed)),
+        ),
     }
 }
 

@@ -1,5 +1,5 @@
 -- The laws of items of sections, and of methods that add one.
-use Rattle.std.proofs.Common.{◌≡◌, ℕ, ◌<◌, ◌^◌, ◌⊎◌, List, length, inl, inr, Result, Ok, Err, OnOk, IfErr, refl, subst, arith}
+use Rattle.std.proofs.Common.{◌≡◌, ℕ, ◌+◌, ◌++◌, ◌<◌, ◌^◌, ◌⊎◌, List, length, inl, inr, Result, Ok, Err, OnOk, OnErr, IfErr, refl, subst, arith}
 use Rattle.wasm_codec.specs.declared.encode.EncodeError.{EncodeError}
 use Rattle.wasm_codec.specs.declared.encode.EncodeError.TheVariants.{TooLong}
 use Rattle.wasm_codec.specs.Encoding.{byte_list_bytes, IsCount, IsMinimal}
@@ -19,11 +19,11 @@ use Rattle.wasm_externals.specs.declared.types.GlobalType.{GlobalType}
 use Rattle.wasm_externals.specs.declared.limits.MemoryType.{MemoryType}
 use Rattle.wasm_externals.specs.declared.limits.TableType.{TableType}
 use Rattle.wasm_externals.specs.declared.types.TagType.{TagType}
-use Rattle.wasm_sections.specs.ClosedEntries.{AreClosed, IsClosedData, IsClosedElement, IsClosedGlobal, IsClosedTable, IsCountedData, IsCountedElement, IsCountedGlobal, IsCountedTable}
-use Rattle.wasm_externals.specs.ClosedExpressions.{IsClosed, IsCountedExpr}
+use Rattle.wasm_sections.specs.ClosedEntries.{AreClosed, IsClosedData, IsClosedElement, IsClosedGlobal, IsClosedTable, IsCountedElement}
+use Rattle.wasm_externals.specs.ClosedExpressions.{IsClosed}
 use Rattle.wasm_sections.specs.formats.Elements.{element, element_segment}
-use Rattle.wasm_sections.specs.formats.Entries.{filled_of, global_entry, global_of, table_entry}
-use Rattle.wasm_sections.specs.formats.Segments.{active_data, data_segment}
+use Rattle.wasm_sections.specs.formats.Entries.{filled_of, global_of}
+use Rattle.wasm_sections.specs.formats.Segments.{active_data}
 use Rattle.wasm_sections.specs.formats.EntryParts.{data_parts, export_parts, import_parts}
 use Rattle.wasm_sections.specs.formats.ModuleSectionParts.{ModuleSectionParts, data_count, start}
 use Rattle.wasm_sections.specs.SectionBytes.{IsBodyOf, IsSectionAfter}
@@ -34,6 +34,7 @@ use Rattle.wasm_sections.proofs.ModuleSectionLaws.{data_count_kind, data_segment
 use Rattle.wasm_sections.proofs.SegmentLaws.{data_is_lawful}
 use Rattle.wasm_lists.specs.EncodedLists.{EncodedItems, IsFull, IsMemoryOrTooLong, IsUncounted}
 use Rattle.wasm_lists.proofs.EncodedListLaws.{both_or, counted_or, which}
+use Rattle.wasm_sections.proofs.ListSectionLaws.{adds_one}
 use Rattle.wasm_sections.specs.ElementSections.{AddsSegment}
 use Rattle.wasm_sections.specs.SectionKinds.{SectionOf, data_section, element_section, export_section, function_section, global_section, import_section, memory_section, table_section, tag_section}
 use Rattle.wasm_sections.specs.ListSections.{Adds, AddsIf, GainsItem, LawfulEntry, LawfulIf}
@@ -91,6 +92,20 @@ data_lawful = fitting_lawful data_parts data_section data_is_lawful (is_body_of 
 
 pub tags_lawful : LawfulEntry (λ (tag : TagType). tag) tag_section
 tags_lawful = entries_lawful (λ (tag : TagType). tag) tag_section tag_is_lawful (is_body_of tags_kind)
+
+-- ---- items of a constant expression
+
+pub filled_lawful : (ty : TableType) → LawfulIf (λ (e : List Instruction). filled_of (ty, e)) table_section IsClosed
+filled_lawful ty = fitting_lawful (λ (e : List Instruction). filled_of (ty, e)) table_section table_is_lawful (is_body_of tables_kind) IsClosed
+
+pub global_of_lawful : (ty : GlobalType) → LawfulIf (λ (e : List Instruction). global_of (ty, e)) global_section IsClosed
+global_of_lawful ty = fitting_lawful (λ (e : List Instruction). global_of (ty, e)) global_section global_is_lawful (is_body_of globals_kind) IsClosed
+
+pub active_lawful : (memory : ℕ) (bytes : List ℕ) → LawfulIf (λ (e : List Instruction). active_data memory (e, bytes)) data_section IsClosed
+active_lawful memory bytes = fitting_lawful (λ (e : List Instruction). active_data memory (e, bytes)) data_section data_is_lawful (is_body_of data_segments_kind) IsClosed
+
+pub active_element_lawful : (table : ℕ) (elements : Elements) → LawfulIf (λ (e : List Instruction). element (modes.Active table e) elements) element_section (λ e. IsClosed e × AreClosed elements)
+active_element_lawful table elements = fitting_lawful (λ (e : List Instruction). element (modes.Active table e) elements) element_section element_is_lawful (is_body_of elements_kind) (λ e. IsClosed e × AreClosed elements)
 
 -- ---- methods that add an item
 
@@ -151,20 +166,17 @@ module _ (calls expr : List Instruction) (is : calls ≡ expr) (closed : IsClose
       adds_counted F was old new (item expr) r same (IsClosed expr) (IsCounted (item expr)) closed
       (subst (λ (e : List Instruction). AddsIf F (IsClosed e) was (item e) new (IsRefused (IsCounted (item e)) was) r) is adds)
 
-  pub adds_table : (ty : TableType) → AddsIf table_entry (IsClosed calls) was (filled_of (ty, calls)) new (IsRefused (IsCountedExpr calls) was) r
-      → Adds (GainsItem table_entry) old (filled_of (ty, expr)) new (IsMemoryOrTooLong (IsFull old ⊎ (IsCountedExpr expr → ⊥))) r
-  adds_table ty adds = adds_with table_entry (λ e. filled_of (ty, e)) IsCountedTable adds
+  -- the same, from what the list of encoded items promises
+  pub adds_parts : {V : Type 0} (S : SectionOf V) (item : List Instruction → V) (IsCounted : V → Type 0) → LawfulIf item S IsClosed
+      → OnOk r (new.count ≡ was.count + 1) → OnOk r (new.bytes ≡ was.bytes ++ S.format.bytes (item calls)) → OnOk r (IsClosed calls → IsMinimal S.format.Encodes S.format.bytes (item calls)) → OnErr r (new ≡ was)
+      → IfErr r (IsRefused (IsCounted (item calls)) was) → Adds (GainsItem S.format) old (item expr) new (IsMemoryOrTooLong (IsFull old ⊎ (IsCounted (item expr) → ⊥))) r
+  adds_parts S item IsCounted law count bytes written unchanged refused =
+      adds_with S.format item IsCounted (adds_one law was new calls (IsRefused (IsCounted (item calls)) was) r count bytes written unchanged refused)
 
-  pub adds_global : (ty : GlobalType) → AddsIf global_entry (IsClosed calls) was (global_of (ty, calls)) new (IsRefused (IsCountedExpr calls) was) r
-      → Adds (GainsItem global_entry) old (global_of (ty, expr)) new (IsMemoryOrTooLong (IsFull old ⊎ (IsCountedExpr expr → ⊥))) r
-  adds_global ty adds = adds_with global_entry (λ e. global_of (ty, e)) IsCountedGlobal adds
-
-  pub adds_data : (memory : ℕ) (bytes : List ℕ) → AddsIf data_segment (IsClosed calls) was (active_data memory (calls, bytes)) new (IsRefused (IsCountedData (active_data memory (calls, bytes))) was) r
-      → Adds (GainsItem data_segment) old (active_data memory (expr, bytes)) new (IsMemoryOrTooLong (IsFull old ⊎ (IsCountedData (active_data memory (expr, bytes)) → ⊥))) r
-  adds_data memory bytes adds = adds_with data_segment (λ e. active_data memory (e, bytes)) IsCountedData adds
-
-  pub adds_elements : (table : ℕ) (elements : Elements) → AddsIf element_segment (IsClosed calls × AreClosed elements) was (element (modes.Active table calls) elements) new (IsRefused (IsCountedElement (element (modes.Active table calls) elements)) was) r
-      → AddsSegment (modes.Active table expr) elements old new r
-  adds_elements table elements adds =
+  pub adds_elements : (table : ℕ) (elements : Elements) → OnOk r (new.count ≡ was.count + 1) → OnOk r (new.bytes ≡ was.bytes ++ element_segment.bytes (element (modes.Active table calls) elements))
+      → OnOk r (IsClosed calls × AreClosed elements → IsMinimal element_segment.Encodes element_segment.bytes (element (modes.Active table calls) elements)) → OnErr r (new ≡ was)
+      → IfErr r (IsRefused (IsCountedElement (element (modes.Active table calls) elements)) was) → AddsSegment (modes.Active table expr) elements old new r
+  adds_elements table elements count bytes written unchanged refused =
+      let one = adds_one (active_element_lawful table elements) was new calls (IsRefused (IsCountedElement (element (modes.Active table calls) elements)) was) r count bytes written unchanged refused in
       adds_closed element_segment was old new (element (modes.Active table expr) elements) r same (IsClosed expr) (AreClosed elements) (IsCountedElement (element (modes.Active table expr) elements)) closed
-      (subst (λ (e : List Instruction). AddsIf element_segment (IsClosed e × AreClosed elements) was (element (modes.Active table e) elements) new (IsRefused (IsCountedElement (element (modes.Active table e) elements)) was) r) is adds)
+      (subst (λ (e : List Instruction). AddsIf element_segment (IsClosed e × AreClosed elements) was (element (modes.Active table e) elements) new (IsRefused (IsCountedElement (element (modes.Active table e) elements)) was) r) is one)

@@ -16,7 +16,7 @@ use std::alloc::Global;
 use std::marker::PhantomData;
 use wasm_codec::reader::DecodeError;
 use wasm_codec::reader::cursor::{Cursor, Fault};
-use wasm_codec::rewriter::{Finished, Rewriter};
+use wasm_codec::rewriter::Rewriter;
 use wasm_lists::list::Items;
 use wasm_lists::readable::Readable;
 use wasm_lists::reading::read_list;
@@ -53,17 +53,8 @@ fn rewritten_body<'a, T: WholeBody>(body: &'a mut [u8]) -> Rewritten<'a>
 {
     let mut rewriter = Rewriter::new(body);
     match rewrite_whole_body::<T>(&mut rewriter) {
-        Ok(()) => {
-            let Finished { bytes, len } = rewriter.finish();
-            Rewritten {
-                bytes,
-                len: Ok(len),
-            }
-        }
-        Err(error) => Rewritten {
-            bytes: rewriter.finish().bytes,
-            len: Err(error),
-        },
+        Ok(()) => Rewritten::new(rewriter, Ok(())),
+        Err(error) => Rewritten::new(rewriter, Err(error)),
     }
 }
 

@@ -10,6 +10,7 @@ use crate::reader::take_block_type;
 use crate::table::Kind;
 use wasm_codec::reader::cursor::Fault;
 use wasm_codec::rewriter::Rewriter;
+use wasm_lists::readable::Item;
 use wasm_lists::rewriting::rewrite_list;
 use wasm_types::types::{ValType, take_heap_type};
 
@@ -38,7 +39,7 @@ pub(crate) fn rewrite_operands(rewriter: &mut Rewriter, kind: Kind) -> Result<()
             rewriter.u32()?;
             Ok(())
         }
-        Kind::Types => rewrite_list::<ValType>(rewriter),
+        Kind::Types => rewrite_list::<Item<'_, ValType>>(rewriter),
         Kind::TryTable => rewrite_try_table(rewriter),
         Kind::Mem => {
             take_mem_arg(rewriter)?;
@@ -54,12 +55,12 @@ pub(crate) fn rewrite_operands(rewriter: &mut Rewriter, kind: Kind) -> Result<()
         }
         Kind::Resume => {
             rewriter.u32()?;
-            rewrite_list::<Handle>(rewriter)
+            rewrite_list::<Item<'_, Handle>>(rewriter)
         }
         Kind::ResumeThrow => {
             rewriter.u32()?;
             rewriter.u32()?;
-            rewrite_list::<Handle>(rewriter)
+            rewrite_list::<Item<'_, Handle>>(rewriter)
         }
         Kind::Cast => rewrite_cast(rewriter),
         Kind::V128 => rewrite_vector(rewriter),
@@ -94,7 +95,7 @@ fn rewrite_try_table(rewriter: &mut Rewriter) -> Result<(), Fault>
     ensures rewrites { Rewrites (operands_format kinds.TryTable) rewriter.old rewriter.new result }
 {
     take_block_type(rewriter)?;
-    rewrite_list::<Catch>(rewriter)
+    rewrite_list::<Item<'_, Catch>>(rewriter)
 }
 
 /// Rewrites the constant of an `i32.const`.

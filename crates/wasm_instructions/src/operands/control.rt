@@ -13,7 +13,6 @@ use wasm_codec::reader::cursor::{Cursor, Fault};
 use wasm_codec::reader::malformed::Construct;
 use wasm_codec::rewriter::Rewriter;
 use wasm_lists::readable::Readable;
-use wasm_lists::rewriting::Rewritable;
 use wasm_types::types::{ValType, take_val_type};
 
 /// The type of a block (Core 3.0, Control Instructions).
@@ -190,20 +189,6 @@ impl<'a> Readable<'a> for Catch {
     fn is_lawful() {}
 
     fn rewrite(rewriter: &mut Rewriter) -> Result<(), Fault> {
-        <Catch as Rewritable>::rewrite(rewriter)
-    }
-}
-
-impl Rewritable for Catch {
-    ghost Value = { Catch };
-
-    ghost format = { catch_clause };
-
-    #[inline(always)]
-    #[tactic(auto, using(crate::proofs::OperandFormatLaws::item_laws))]
-    fn is_lawful() {}
-
-    fn rewrite(rewriter: &mut Rewriter) -> Result<(), Fault> {
         take_catch(rewriter)?;
         Ok(())
     }
@@ -223,20 +208,6 @@ impl<'a> Readable<'a> for Handle {
     fn read(_alloc: Global, cursor: &mut Cursor<'a>) -> Result<Handle, Fault> {
         take_handle(cursor)
     }
-
-    #[inline(always)]
-    #[tactic(auto, using(crate::proofs::OperandFormatLaws::item_laws))]
-    fn is_lawful() {}
-
-    fn rewrite(rewriter: &mut Rewriter) -> Result<(), Fault> {
-        <Handle as Rewritable>::rewrite(rewriter)
-    }
-}
-
-impl Rewritable for Handle {
-    ghost Value = { Handle };
-
-    ghost format = { handle_clause };
 
     #[inline(always)]
     #[tactic(auto, using(crate::proofs::OperandFormatLaws::item_laws))]

@@ -17,7 +17,7 @@ ghost use Rattle.wasm_codec.specs.Rewriter.{Rewrites};
 use crate::custom::CustomSection;
 use crate::module_sections::ModuleSection;
 use crate::module_sections::kinds::{SectionKind, SectionVisitor, visit_section};
-use crate::module_sections::rewriter::{rewrite_module_section, unknown_section};
+use crate::module_sections::rewriter::{AnySection, unknown_section};
 use std::alloc::Global;
 use wasm_codec::reader::cursor::{Cursor, Fault};
 use wasm_codec::reader::malformed::Construct;
@@ -47,13 +47,18 @@ impl<'a> Readable<'a> for ModuleSection<'a> {
     {}
 
     fn read(alloc: Global, cursor: &mut Cursor<'a>) -> Result<ModuleSection<'a>, Fault> {
-        read_module_section(alloc, cursor)
+        let start = cursor.fork();
+        if let Some(section) = read_short_custom(cursor) {
+            return Ok(section);
+        }
+        *cursor = start;
+        read_any_section(alloc, cursor)
     }
 
     fn rewrite(rewriter: &mut Rewriter) -> Result<(), Fault>
         ensures rewrites { Rewrites module_section rewriter.old rewriter.new result }
     {
-        rewrite_module_section(rewriter)
+        <AnySection as Rewritable>::rewrite(rewriter)
     }
 }
 
@@ -114,23 +119,6 @@ impl<'a> SectionVisitor for ContentReader<'a> {
     fn visit_unknown(&mut self, id: u8) -> Result<ModuleSection<'a>, Fault> {
         Err(Fault::Malformed(unknown_section(id, self.cursor.to_end())))
     }
-}
-
-/// Reads a section.
-fn read_module_section<'a>(
-    alloc: Global,
-    cursor: &mut Cursor<'a>,
-) -> Result<ModuleSection<'a>, Fault>
-    ensures reads { Reads module_section.at cursor.old cursor.new (map_ok module_section_parts result) }
-    // The section is a list that breaks off at the item that a fault names.
-    ensures names { IfInItem result (BreaksInSection cursor.old.left) }
-{
-    let start = cursor.fork();
-    if let Some(section) = read_short_custom(cursor) {
-        return Ok(section);
-    }
-    *cursor = start;
-    read_any_section(alloc, cursor)
 }
 
 /// Reads a custom section whose size has one or two bytes. Returns `None` if the next section is another, longer or

@@ -31,7 +31,13 @@ impl Rewritable for AnySection {
     fn is_lawful() {}
 
     fn rewrite(rewriter: &mut Rewriter) -> Result<(), Fault> {
-        rewrite_module_section(rewriter)
+        // A fault carries the section's id.
+        let id = rewriter.peek(Construct::SectionId).unwrap_or(0);
+        match rewrite_any_section(rewriter) {
+            Ok(()) => Ok(()),
+            Err(Fault::Malformed(malformed)) => Err(Fault::Malformed(malformed.in_section(id))),
+            Err(Fault::Memory) => Err(Fault::Memory),
+        }
     }
 }
 
@@ -77,24 +83,11 @@ pub(crate) fn unknown_section(id: u8, left: usize) -> Malformed
     Malformed::new(Reason::UnknownSection { id }, left.wrapping_add(1))
 }
 
-/// Rewrites a section to its minimal encoding. A fault carries the section's id.
-pub(crate) fn rewrite_module_section(rewriter: &mut Rewriter) -> Result<(), Fault>
-    ensures rewrites { Rewrites module_section rewriter.old rewriter.new result }
-    // The section is a list that breaks off at the item that a fault names.
-    ensures names { IfInItem result (BreaksInSection rewriter.old.place.left) }
-{
-    let id = rewriter.peek(Construct::SectionId).unwrap_or(0);
-    match rewrite_any_section(rewriter) {
-        Ok(()) => Ok(()),
-        Err(Fault::Malformed(malformed)) => Err(Fault::Malformed(malformed.in_section(id))),
-        Err(Fault::Memory) => Err(Fault::Memory),
-    }
-}
-
 /// Rewrites a section to its minimal encoding.
 #[tactic(auto, using(crate::proofs::ModuleSectionLaws::rewritten_with_names, crate::proofs::ModuleSectionLaws::broken_rewritten), unfolding(crate::specs::formats::ModuleSections::module_section))]
 fn rewrite_any_section(rewriter: &mut Rewriter) -> Result<(), Fault>
     ensures rewrites { Rewrites module_section rewriter.old rewriter.new result }
+    // The section is a list that breaks off at the item that a fault names.
     ensures names { IfInItem result (BreaksInSection rewriter.old.place.left) }
 {
     let id = match rewriter.byte_of(Construct::SectionId) {

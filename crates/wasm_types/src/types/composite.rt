@@ -23,6 +23,7 @@ use wasm_codec::reader::malformed::Construct;
 use wasm_codec::rewriter::Rewriter;
 use wasm_lists::encode::{Encode, encode_list, encode_list_after};
 use wasm_lists::list::Items;
+use wasm_lists::readable::Item;
 use wasm_lists::reading::read_list;
 use wasm_lists::rewriting::rewrite_list;
 
@@ -209,10 +210,10 @@ pub(crate) fn rewrite_inner_type(rewriter: &mut Rewriter) -> Result<(), Fault>
 {
     match rewriter.byte_of(Construct::TypeForm)? {
         0x60 => {
-            rewrite_list::<ValType>(rewriter)?;
-            rewrite_list::<ValType>(rewriter)?;
+            rewrite_list::<Item<'_, ValType>>(rewriter)?;
+            rewrite_list::<Item<'_, ValType>>(rewriter)?;
         }
-        0x5f => rewrite_list::<FieldType>(rewriter)?,
+        0x5f => rewrite_list::<Item<'_, FieldType>>(rewriter)?,
         0x5e => {
             take_field_type(rewriter)?;
         }

@@ -45,20 +45,6 @@ impl<'a> Readable<'a> for ValType {
     fn is_lawful() {}
 
     fn rewrite(rewriter: &mut Rewriter) -> Result<(), Fault> {
-        <ValType as Rewritable>::rewrite(rewriter)
-    }
-}
-
-impl Rewritable for ValType {
-    ghost Value = { ValType };
-
-    ghost format = { val_type };
-
-    #[inline(always)]
-    #[tactic(auto, using(crate::proofs::TypeFormatLaws::type_laws))]
-    fn is_lawful() {}
-
-    fn rewrite(rewriter: &mut Rewriter) -> Result<(), Fault> {
         take_val_type(rewriter)?;
         Ok(())
     }
@@ -88,20 +74,6 @@ impl<'a> Readable<'a> for FieldType {
     fn is_lawful() {}
 
     fn rewrite(rewriter: &mut Rewriter) -> Result<(), Fault> {
-        <FieldType as Rewritable>::rewrite(rewriter)
-    }
-}
-
-impl Rewritable for FieldType {
-    ghost Value = { FieldType };
-
-    ghost format = { field_type };
-
-    #[inline(always)]
-    #[tactic(auto, using(crate::proofs::TypeFormatLaws::type_laws))]
-    fn is_lawful() {}
-
-    fn rewrite(rewriter: &mut Rewriter) -> Result<(), Fault> {
         take_field_type(rewriter)?;
         Ok(())
     }
@@ -121,20 +93,6 @@ impl<'a> Readable<'a> for SubType {
     fn read(alloc: Global, cursor: &mut Cursor<'a>) -> Result<SubType, Fault> {
         read_sub_type(alloc, cursor)
     }
-
-    #[inline(always)]
-    #[tactic(auto, using(crate::proofs::TypeFormatLaws::type_laws))]
-    fn is_lawful() {}
-
-    fn rewrite(rewriter: &mut Rewriter) -> Result<(), Fault> {
-        <SubType as Rewritable>::rewrite(rewriter)
-    }
-}
-
-impl Rewritable for SubType {
-    ghost Value = { SubType };
-
-    ghost format = { sub_type };
 
     #[inline(always)]
     #[tactic(auto, using(crate::proofs::TypeFormatLaws::type_laws))]

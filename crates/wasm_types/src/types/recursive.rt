@@ -22,6 +22,7 @@ use wasm_codec::reader::malformed::Construct;
 use wasm_codec::rewriter::Rewriter;
 use wasm_lists::encode::{Encode, encode_list_after};
 use wasm_lists::list::Items;
+use wasm_lists::readable::Item;
 use wasm_lists::reading::read_list;
 use wasm_lists::rewriting::rewrite_list;
 
@@ -161,7 +162,7 @@ pub(crate) fn rewrite_entry(rewriter: &mut Rewriter) -> Result<(), Fault>
     let first = rewriter.peek(Construct::TypeForm)?;
     if first == 0x4e {
         rewriter.byte_of(Construct::TypeForm)?;
-        return rewrite_list::<SubType>(rewriter);
+        return rewrite_list::<Item<'_, SubType>>(rewriter);
     }
     if first == 0x60 {
         return rewrite_inner_type(rewriter);

@@ -9,8 +9,8 @@ rewrite_whole_linking-requires c =
 
 pub returns-in-Ok-clause-same_reference : goal.returns-in-Ok-clause-same_reference
 returns-in-Ok-clause-same_reference c =
-    c.finish-bytes.ensures.same_reference ∙ ap (λ (r : Rest). r.name) (c.in-Ok.ensures.rest ∙ ap (λ (r : Rewriting). r.rest) c.new-rewriter.ensures)
+    rw c.new.ensures.ok (c.new.ensures.same_reference ∙ ap (λ (r : Rest). r.name) (c.in-Ok.ensures.rest ∙ ap (λ (r : Rewriting). r.rest) c.new-rewriter.ensures))
 
 pub returns-in-Ok-clause-rewrites : goal.returns-in-Ok-clause-rewrites
 returns-in-Ok-clause-rewrites c =
-    record { given = rw (c.finish-bytes.ensures.done, ap (λ (r : Rewriting). r.place.left) (sym c.new-rewriter.ensures)) c.in-Ok.ensures.rewrites.given; prefix = tt; unencoded = tt }
+    rw c.new.ensures.ok (record { given = rw (c.new.ensures.done, ap (λ (r : Rewriting). r.place.left) (sym c.new-rewriter.ensures)) c.in-Ok.ensures.rewrites.given; prefix = tt; unencoded = tt })

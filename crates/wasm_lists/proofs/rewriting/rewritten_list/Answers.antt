@@ -9,8 +9,8 @@ rewrite_whole_list-requires g c =
 
 pub returns-in-Ok-clause-same_reference : goal.returns-in-Ok-clause-same_reference
 returns-in-Ok-clause-same_reference g c =
-    c.finish-bytes.ensures.same_reference ∙ ap (λ (r : Rest). r.name) (c.in-Ok.ensures.rest ∙ ap (λ (r : Rewriting). r.rest) c.new-rewriter.ensures)
+    rw c.new.ensures.ok (c.new.ensures.same_reference ∙ ap (λ (r : Rest). r.name) (c.in-Ok.ensures.rest ∙ ap (λ (r : Rewriting). r.rest) c.new-rewriter.ensures))
 
 pub returns-in-Ok-clause-rewrites : goal.returns-in-Ok-clause-rewrites
 returns-in-Ok-clause-rewrites g c =
-    rw (c.finish-bytes.ensures.done, ap (λ (r : Rewriting). r.place.left) (sym c.new-rewriter.ensures)) c.in-Ok.ensures.rewrites
+    rw (c.new.ensures.ok, c.new.ensures.done, ap (λ (r : Rewriting). r.place.left) (sym c.new-rewriter.ensures)) c.in-Ok.ensures.rewrites
