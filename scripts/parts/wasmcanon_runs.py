@@ -13,6 +13,8 @@ from parts.common import HELP, ROOT, both_programs, lacks, read_terminal, room, 
 from parts.listing_cases import (ALL_DIFFERENCES, CALL_AS_JSON, CUT_LISTINGS, EVERY, EVERY_AS_JSON, FUNCTION_NAMES,
                                  INSTRUCTIONS, LISTING, LISTINGS, NAMED_IMPORT, code)
 from parts.listing_runs import list_in, try_chosen_sections, try_contents, try_places
+from parts.long_items import SHORT, long_items
+from parts.long_modules import leb, sized
 from parts.wasmcanon_cases import (CUT, CUT_AS_JSON, DISORDERED, ENCODINGS, FILES, FOREIGN, FUNCTION, HEADER, HINTED,
                                    HINTED_NOWHERE, HINTS_MOVED, IN_ORDER, LONGER, LONG_AS_JSON, LONG_SIZE, MALFORMED,
                                    NAMES, NO, NOT_CANONICAL, NO_HEADER, PADDED_DATA_USE, PADDED_NAMES,
@@ -325,19 +327,10 @@ def try_quiet(runs):
         runs.holds(f"--quiet {words[0]}", right and "\nUsage: wasmcanon " in runs.err)
 
 
-def after_size(body):
-    size = len(body)
-    digits = bytearray()
-    while size >= 128:
-        digits.append(128 | size & 127)
-        size >>= 7
-    return bytes([*digits, size]) + body
-
-
 def function(instructions):
     """A module of one function with these instructions."""
-    body = after_size(b"\0" + instructions + b"\x0B")
-    return HEADER + TYPE + FUNCTION + b"\x0A" + after_size(b"\1" + body)
+    body = sized(b"\0" + instructions + b"\x0B")
+    return HEADER + TYPE + FUNCTION + b"\x0A" + sized(b"\1" + body)
 
 
 def large_modules():
@@ -359,28 +352,28 @@ def many_parts():
     """Modules of which something kept for each part would be noticed, or a copy of a name: what each has, and its
     bytes."""
     yield "a million empty code sections", HEADER + b"\x0A\1\0" * 1_000_000
-    yield "two million functions", HEADER + b"\x0A" + after_size(leb(2_000_000) + b"\2\0\x0B" * 2_000_000)
-    yield "a long name", HEADER + b"\0" + after_size(after_size(b"a" * 20_000_000))
+    yield "two million functions", HEADER + b"\x0A" + sized(leb(2_000_000) + b"\2\0\x0B" * 2_000_000)
+    yield "a long name", HEADER + b"\0" + sized(sized(b"a" * 20_000_000))
 
 
 def many_contents():
     """Custom sections of which a list or a copy of their contents would be noticed: what each has, and its bytes."""
     names, values = b"\0\1t" * 2_000_000, b"\1a\0" * 2_000_000
-    yield "two million names", custom_module(b"name", b"\4" + after_size(leb(2_000_000) + names))
+    yield "two million names", custom_module(b"name", b"\4" + sized(leb(2_000_000) + names))
     yield "two million values", custom_module(b"producers", b"\1\3sdk" + leb(2_000_000) + values)
-    yield "a name of 20 MB", custom_module(b"name", b"\0" + after_size(after_size(b"a" * 20_000_000)))
+    yield "a name of 20 MB", custom_module(b"name", b"\0" + sized(sized(b"a" * 20_000_000)))
 
 
 def custom_module(name, contents):
-    return HEADER + b"\0" + after_size(after_size(name) + contents)
+    return HEADER + b"\0" + sized(sized(name) + contents)
 
 
 def many_names():
     """Modules of which an offset kept for each name would be noticed: what each has, and its bytes."""
-    yield "a million exports", HEADER + b"\7" + after_size(leb(1_000_000) + b"\3abc\0\0" * 1_000_000)
-    yield "a million imports", HEADER + b"\2" + after_size(leb(1_000_000) + bytes(4_000_000))
+    yield "a million exports", HEADER + b"\7" + sized(leb(1_000_000) + b"\3abc\0\0" * 1_000_000)
+    yield "a million imports", HEADER + b"\2" + sized(leb(1_000_000) + bytes(4_000_000))
     named = leb(1_000_000) + b"".join(leb(at) + b"\0" for at in range(1_000_000))
-    yield "a million names", HEADER + b"\0" + after_size(b"\4name\1" + after_size(named))
+    yield "a million names", HEADER + b"\0" + sized(b"\4name\1" + sized(named))
 
 
 def least_memory(runs):
@@ -548,9 +541,9 @@ def try_names_of_functions(runs):
         right = names_of_functions(runs.out) == {at: wanted.get(at) for at in range(6)}
         runs.holds(f"names in a listing: {name}", right)
     entries = b"".join(leb(2 * at) + leb(len(f"f{at}")) + f"f{at}".encode() for at in range(100))
-    name_map = after_size(leb(100) + entries)
+    name_map = sized(leb(100) + entries)
     (runs.room / "listed").write_bytes(
-        HEADER + TYPE + b"\3" + after_size(leb(210) + bytes(210)) + b"\0" + after_size(b"\4name\1" + name_map))
+        HEADER + TYPE + b"\3" + sized(leb(210) + bytes(210)) + b"\0" + sized(b"\4name\1" + name_map))
     runs.run("--list", "--any-order", "listed")
     wanted = {at: f"f{at // 2}" if at % 2 == 0 and at < 200 else None for at in range(210)}
     runs.holds("a hundred names in a listing", runs.status == 0 and names_of_functions(runs.out) == wanted)
@@ -563,32 +556,19 @@ def names_of_functions(listing):
 
 
 def try_long_listing(runs):
-    """Lists a module whose listing has 10 MB. It must take no more memory than its check, but for buffers."""
-    local_get = b"\x20\0" * 200_000
-    function = leb(len(local_get) + 2) + b"\0" + local_get + b"\x0B"
-    (runs.room / "long_code").write_bytes(
-        HEADER + TYPE + FUNCTION + b"\x0A" + leb(len(function) + 1) + b"\1" + function)
-    listing, check = (peak_memory(runs, word, "long_code") for word in ("--list", "--check"))
-    runs.status, runs.out, runs.err = 0, b"", f"listing {listing} KiB, check {check} KiB"
-    runs.holds("the memory of a long listing", 0 < listing <= check + 2048)
-
-
-def leb(number):
-    """The minimal encoding of a number."""
-    digits = []
-    while number > 127:
-        digits.append(number & 127 | 128)
-        number >>= 7
-    return bytes([*digits, number])
-
-
-def peak_memory(runs, *words):
-    """The most memory that a run takes, in KiB; 0 if it fails."""
-    process = subprocess.Popen([runs.program, *words], cwd=runs.room, stdin=subprocess.DEVNULL,
-                               stdout=subprocess.DEVNULL)
-    _, status, usage = os.wait4(process.pid, 0)
-    process.returncode = os.waitstatus_to_exitcode(status)
-    return 0 if process.returncode else usage.ru_maxrss
+    """Lists modules with long items, whose values and texts are longer still. Only the module may be held."""
+    least = least_memory(runs)
+    for kind, one, other in long_items():
+        (runs.room / "long_item").write_bytes(one)
+        (runs.room / "other_item").write_bytes(other)
+        for words in (["--list"], ["--list", "--json"]):
+            in_little_memory(runs, least, f"a long {kind}", 0, "", "--any-order", *words, "long_item")
+        if kind not in SHORT:
+            continue
+        differ = "error: long_item and other_item differ"
+        for words in (["--diff"], ["--diff", "--json"], ["--diff", "--all"], ["--diff", "--all", "--json"]):
+            files = ["long_item", "other_item"]
+            in_little_memory(runs, least, f"a long {kind}", NO, differ, "--any-order", *words, *files)
 
 
 def try_listings_as_json(runs):

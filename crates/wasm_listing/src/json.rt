@@ -55,15 +55,87 @@ pub fn text_value(alloc: Global, text: &str) -> Result<Value, AllocError> {
     Ok(Value::String(String::from_str(alloc, text)?))
 }
 
+/// A writer of an object, one member after another. It copies nothing.
+#[derive(Drop)]
+pub struct ObjectWriter<'w, W> {
+    writer: &'w mut W,
+    /// Whether a member was written.
+    has_members: bool,
+}
+
+impl<'w, W: io::Write> ObjectWriter<'w, W> {
+    /// Returns a writer of an object without members.
+    pub fn new(writer: &'w mut W) -> ObjectWriter<'w, W> {
+        ObjectWriter {
+            writer,
+            has_members: false,
+        }
+    }
+
+    /// Writes the name of a member. Its value comes next.
+    fn name(&mut self, name: &str) -> io::Result<()> {
+        let separator = if self.has_members { "," } else { "{" };
+        self.has_members = true;
+        write!(self.writer, "{separator}\"{name}\":")
+    }
+
+    /// Writes a member with a number.
+    pub fn put<D: fmt::Display + Drop>(&mut self, name: &str, number: D) -> io::Result<()> {
+        self.name(name)?;
+        write!(self.writer, "{number}")
+    }
+
+    /// Writes a member with a number. `None` becomes `null`.
+    pub fn put_option<D: fmt::Display + Drop>(
+        &mut self,
+        name: &str,
+        number: Option<D>,
+    ) -> io::Result<()> {
+        match number {
+            Some(number) => self.put(name, number),
+            None => self.put(name, "null"),
+        }
+    }
+
+    /// Writes a member with a text.
+    pub fn put_text<D: fmt::Display>(&mut self, name: &str, text: &D) -> io::Result<()> {
+        self.name(name)?;
+        self.writer.write_all(b"\"")?;
+        write_json_text(self.writer, text)?;
+        self.writer.write_all(b"\"")
+    }
+
+    /// Begins a member that is an object.
+    pub fn object(&mut self, name: &str) -> io::Result<ObjectWriter<'_, W>> {
+        self.name(name)?;
+        Ok(ObjectWriter::new(self.writer))
+    }
+
+    /// Begins a member that is an array, whose values and closing bracket come next.
+    pub fn array(&mut self, name: &str) -> io::Result<()> {
+        self.name(name)?;
+        self.writer.write_all(b"[")
+    }
+
+    /// Ends the object, which has members.
+    pub fn end(self) -> io::Result<()> {
+        self.writer.write_all(b"}")
+    }
+}
+
 /// Writes what is between the quotation marks of a text of JSON. Copies nothing.
-pub fn write_json_text<W: io::Write, D: fmt::Display>(writer: &mut W, text: &D) -> io::Result<()> {
+fn write_json_text<W: io::Write, D: fmt::Display>(writer: &mut W, text: &D) -> io::Result<()> {
     let mut inside = JsonInside {
         writer,
         error: None,
     };
-    // An error of the writer is kept, since the error of a format says nothing.
-    let _ = write!(inside, "{text}");
-    inside.finish()
+    let written = write!(inside, "{text}");
+    match (inside.error, written) {
+        (Some(error), _) => Err(error),
+        // Texts are read while they are written, which needs memory.
+        (None, Err(_)) => Err(io::Error::from(io::ErrorKind::OutOfMemory)),
+        (None, Ok(())) => Ok(()),
+    }
 }
 
 /// A writer of what is between the quotation marks of a text of JSON.
@@ -74,14 +146,6 @@ struct JsonInside<'w, W> {
 }
 
 impl<W: io::Write> JsonInside<'_, W> {
-    /// Returns the error of the writer, if it failed.
-    fn finish(self) -> io::Result<()> {
-        match self.error {
-            Some(error) => Err(error),
-            None => Ok(()),
-        }
-    }
-
     /// Writes characters, with escapes for those that JSON doesn't allow.
     fn write_escaped(&mut self, text: &str) -> io::Result<()> {
         for character in text.chars() {

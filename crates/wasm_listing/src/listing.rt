@@ -11,6 +11,7 @@ mod item_names;
 mod items;
 mod lines;
 mod parts;
+mod pieces;
 mod silent;
 mod types;
 mod values;
@@ -28,7 +29,10 @@ pub use instructions::{Nesting, item_of};
 pub use item_names::{ItemName, ItemNames, NameText};
 pub use items::{ItemText, LocalsText, Unnamed};
 pub use lines::{HeadText, Lines};
-pub use parts::{Longer, Part, PartReader, is_same, longer_number};
+use parts::encoded_len;
+pub use parts::{Longer, Part, PartReader, longer_number};
+use pieces::read_data;
+pub use pieces::{Instruction, Segment, Types};
 pub use silent::Silent;
 use std::alloc::{AllocError, Global};
 use std::io;
@@ -37,15 +41,12 @@ use wasm_code::raw::after_header;
 use wasm_codec::reader::cursor::{Cursor, Fault};
 use wasm_externals::limits::MemoryType;
 use wasm_externals::types::TagType;
-use wasm_instructions::table::Call;
-use wasm_lists::readable::Readable;
 use wasm_sections::data::DataSegment;
-use wasm_sections::elements::Element;
 use wasm_sections::exports::Export;
 use wasm_sections::globals::Global as GlobalEntry;
 use wasm_sections::imports::Import;
 use wasm_sections::tables::Table;
-use wasm_types::types::{TypeEntry, ValType};
+use wasm_types::types::ValType;
 
 /// Why a listing ends before the end of the module.
 #[derive(Drop)]
@@ -164,7 +165,7 @@ pub trait Listing {
     fn call(
         &mut self,
         part: &Part<'_>,
-        call: &Call,
+        instruction: &Instruction<'_>,
         name: Option<ItemName<'_>>,
     ) -> Result<(), Stop>;
 
@@ -225,7 +226,7 @@ fn list_contents<L: Listing>(
     let mut parts = PartReader::new(alloc, head.located);
     match section.id {
         0 => list_custom(&head.located, &mut parts, listing),
-        1 => list_items::<TypeEntry, L>(&mut parts, spaces, listing),
+        1 => list_items::<Types<'_>, L>(&mut parts, spaces, listing),
         2 => list_items::<Import<'_>, L>(&mut parts, spaces, listing),
         3 => list_items::<u32, L>(&mut parts, spaces, listing),
         4 => list_items::<Table, L>(&mut parts, spaces, listing),
@@ -233,7 +234,7 @@ fn list_contents<L: Listing>(
         6 => list_items::<GlobalEntry, L>(&mut parts, spaces, listing),
         7 => list_items::<Export<'_>, L>(&mut parts, spaces, listing),
         8 => list_start(&mut parts, spaces, listing),
-        9 => list_items::<Element, L>(&mut parts, spaces, listing),
+        9 => list_items::<Segment<'_>, L>(&mut parts, spaces, listing),
         10 => list_functions(&mut parts, spaces, listing),
         11 => list_items::<DataSegment<'_>, L>(&mut parts, spaces, listing),
         12 => list_data_count(&mut parts, listing),
@@ -243,16 +244,17 @@ fn list_contents<L: Listing>(
 }
 
 /// Lists the items of a list.
-fn list_items<'a, T: Readable<'a> + Listed, L: Listing>(
+fn list_items<'a, T: Listed<'a>, L: Listing>(
     parts: &mut PartReader<'a>,
     spaces: &mut IndexSpaces<'_>,
     listing: &mut L,
 ) -> Result<(), Stop> {
     let count = parts.number()?;
     for number in 0..count {
-        let (part, item) = parts.item::<T>(number)?;
-        listing.item(&part, &item.text(spaces))?;
-        let contents = item.contents();
+        let (part, item) = T::read(parts, number)?;
+        let text = item.text(spaces);
+        listing.item(&part, &text)?;
+        let contents = text.contents();
         if !contents.is_empty() {
             listing.contents(part.end().saturating_sub(contents.len()), contents)?;
         }
@@ -324,9 +326,9 @@ fn list_calls<L: Listing>(
         if code.len() == 0 {
             break;
         }
-        let (part, call) = code.item::<Call>(0)?;
-        let name = item_of(&call).and_then(|(space, index)| spaces.name(space, index));
-        listing.call(&part, &call, name)?;
+        let (part, instruction) = Instruction::read(code)?;
+        let name = item_of(&instruction).and_then(|(space, index)| spaces.name(space, index));
+        listing.call(&part, &instruction, name)?;
     }
     Ok(())
 }

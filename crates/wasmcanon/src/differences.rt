@@ -144,7 +144,7 @@ fn list_parts(
     let alloc = rt.alloc();
     let listed = if request.json {
         write!(writer, "{{\"differences\":[")?;
-        list_differences(alloc, one, other, &mut DifferentValues::new(alloc, writer))
+        list_differences(alloc, one, other, &mut DifferentValues::new(writer))
     } else {
         list_differences(alloc, one, other, &mut DifferentLines::new(writer))
     };

@@ -100,7 +100,7 @@ fn list_as_json(
             return fail(writer, results, input, &failure);
         }
     };
-    let mut values = Values::new(alloc, writer);
+    let mut values = Values::new(writer);
     values.begin()?;
     goes_on(list_module(alloc, &module, choice, &mut values))?;
     values.end()?;

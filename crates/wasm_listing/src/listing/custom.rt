@@ -102,7 +102,7 @@ impl<L: Listing> Contents<'_, L> {
         kind: &'static str,
     ) -> Result<(u32, u32), Stop> {
         self.at = parts.at();
-        let start = parts.begin();
+        let start = parts.position();
         let index = parts.number()?;
         let count = parts.number()?;
         let minimal = u32_len(index).saturating_add(u32_len(count));
@@ -114,7 +114,7 @@ impl<L: Listing> Contents<'_, L> {
     /// Lists a name, after this word.
     fn name(&mut self, parts: &mut PartReader<'_>, word: &'static str) -> Result<(), Stop> {
         self.at = parts.at();
-        let start = parts.begin();
+        let start = parts.position();
         let name = parts.name()?;
         let part = parts.part_from(self.number, start, name_len(name));
         self.add(&part, &CustomText::Name(word, name))
@@ -123,7 +123,7 @@ impl<L: Listing> Contents<'_, L> {
     /// Reads the id and the size of a subsection.
     fn subsection<'a>(&mut self, parts: &mut PartReader<'a>) -> Result<Subsection<'a>, Stop> {
         self.at = parts.at();
-        let start = parts.begin();
+        let start = parts.position();
         let id = parts.byte()?;
         let body = parts.sized()?;
         Ok(Subsection {
@@ -339,7 +339,7 @@ fn list_field<L: Listing>(
     out: &mut Contents<'_, L>,
 ) -> Result<u32, Stop> {
     out.at = parts.at();
-    let start = parts.begin();
+    let start = parts.position();
     let name = parts.name()?;
     let count = parts.number()?;
     let minimal = name_len(name).saturating_add(u32_len(count));

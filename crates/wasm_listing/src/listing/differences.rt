@@ -1,26 +1,21 @@
 //! The parts in which two modules differ.
 use crate::diff::common_len;
 use crate::listing::{
-    HeadText, IndexSpaces, ItemNames, ItemText, Listed, LocalsText, Part, PartReader, SectionHead,
-    Silent, Stop, is_same, list_section,
+    HeadText, IndexSpaces, Instruction, ItemNames, ItemText, Listed, LocalsText, Part, PartReader,
+    SectionHead, Segment, Silent, Stop, Types, list_section,
 };
 use crate::sections::{LocatedSection, SectionWalk, rank};
 use std::alloc::{AllocError, Global};
-use wasm_code::code::CodeBody;
 use wasm_code::section::RawSection;
 use wasm_externals::limits::MemoryType;
 use wasm_externals::types::TagType;
-use wasm_instructions::table::Call;
-use wasm_lists::readable::Readable;
 use wasm_modules::selection::custom_name;
 use wasm_sections::custom::read_custom;
 use wasm_sections::data::DataSegment;
-use wasm_sections::elements::Element;
 use wasm_sections::exports::Export;
 use wasm_sections::globals::Global as GlobalEntry;
 use wasm_sections::imports::Import;
 use wasm_sections::tables::Table;
-use wasm_types::types::TypeEntry;
 
 /// A part that differs in two modules.
 #[derive(Drop)]
@@ -249,7 +244,7 @@ fn compare_sections<'a, D: Differences>(
     };
     match one.located.section.id {
         0 => compare_custom(alloc, one, other, out),
-        1 => compare_items::<TypeEntry, D>(&mut pair, here, there, out),
+        1 => compare_items::<Types<'_>, D>(&mut pair, here, there, out),
         2 => compare_items::<Import<'_>, D>(&mut pair, here, there, out),
         3 => compare_items::<u32, D>(&mut pair, here, there, out),
         4 => compare_items::<Table, D>(&mut pair, here, there, out),
@@ -257,7 +252,7 @@ fn compare_sections<'a, D: Differences>(
         6 => compare_items::<GlobalEntry, D>(&mut pair, here, there, out),
         7 => compare_items::<Export<'_>, D>(&mut pair, here, there, out),
         8 | 12 => compare_numbers(&mut pair, out),
-        9 => compare_items::<Element, D>(&mut pair, here, there, out),
+        9 => compare_items::<Segment<'_>, D>(&mut pair, here, there, out),
         10 => compare_functions(&mut pair, here, there, out),
         11 => compare_items::<DataSegment<'_>, D>(&mut pair, here, there, out),
         13 => compare_items::<TagType, D>(&mut pair, here, there, out),
@@ -299,7 +294,7 @@ impl<'a> Pair<'a, '_> {
 }
 
 /// Lists the items in which two lists differ.
-fn compare_items<'a, T: Readable<'a> + Listed, D: Differences>(
+fn compare_items<'a, T: Listed<'a>, D: Differences>(
     pair: &mut Pair<'a, 'a>,
     here: &mut IndexSpaces<'_>,
     there: &mut IndexSpaces<'_>,
@@ -309,7 +304,7 @@ fn compare_items<'a, T: Readable<'a> + Listed, D: Differences>(
     for number in 0..count.max(other_count) {
         let one = next_item::<T>(&mut pair.one, number, count)?;
         let other = next_item::<T>(&mut pair.other, number, other_count)?;
-        if !are_same(pair.alloc, &one, &other)? {
+        if !are_same(&one, &other)? {
             list_items(pair, number, (&one, here), (&other, there), out)?;
         }
         count_item(&one, here);
@@ -319,63 +314,73 @@ fn compare_items<'a, T: Readable<'a> + Listed, D: Differences>(
 }
 
 /// Lists the different items with this number in two lists, each with the index spaces before it.
-fn list_items<'a, T: Listed, D: Differences>(
+fn list_items<'a, T: Listed<'a>, D: Differences>(
     pair: &Pair<'a, 'a>,
     number: u32,
     (one, here): (&Option<(Part<'a>, T)>, &IndexSpaces<'_>),
     (other, there): (&Option<(Part<'a>, T)>, &IndexSpaces<'_>),
     out: &mut D,
 ) -> Result<(), Stop> {
-    let row = rows_of(one, other);
+    let row = differ_at(contents_in(one, here), contents_in(other, there));
     let first = item_side(pair.alloc, one, here, row)?;
     let second = item_side(pair.alloc, other, there, row)?;
     out.part(&pair.part(Some(number), first, second))
 }
 
 /// Counts an item, if there is one.
-fn count_item<T: Listed>(item: &Option<(Part<'_>, T)>, spaces: &mut IndexSpaces<'_>) {
+fn count_item<'a, T: Listed<'a>>(item: &Option<(Part<'a>, T)>, spaces: &mut IndexSpaces<'_>) {
     if let Some((_, item)) = item {
         item.count(spaces);
     }
 }
 
 /// Reads the item with this number, if the list has that many.
-fn next_item<'a, T: Readable<'a>>(
+fn next_item<'a, T: Listed<'a>>(
     parts: &mut PartReader<'a>,
     number: u32,
     count: u32,
 ) -> Result<Option<(Part<'a>, T)>, Stop> {
     if number < count {
-        return Ok(Some(parts.item::<T>(number)?));
+        return Ok(Some(T::read(parts, number)?));
     }
     Ok(None)
 }
 
 /// Checks whether two lists have the same item.
-fn are_same<'a, T: Readable<'a>>(
-    alloc: Global,
+fn are_same<'a, T: Listed<'a>>(
     one: &Option<(Part<'a>, T)>,
     other: &Option<(Part<'a>, T)>,
-) -> Result<bool, AllocError> {
-    match (one, other) {
-        (Some((one, _)), Some((other, _))) => is_same::<T>(alloc, one, other),
-        _ => Ok(false),
+) -> Result<bool, Stop> {
+    let (Some((part, item)), Some((other_part, other))) = (one, other) else {
+        return Ok(false);
+    };
+    if part.bytes == other_part.bytes {
+        return Ok(true);
     }
+    item.is_same(other)
 }
 
-/// Returns the number of bytes that two data segments have in common at their starts. `None` means that their bytes
-/// don't differ, or that there aren't two.
-fn rows_of<T: Listed>(one: &Option<(Part<'_>, T)>, other: &Option<(Part<'_>, T)>) -> Option<usize> {
-    match (one, other) {
-        (Some((_, one)), Some((_, other))) if one.contents() != other.contents() => {
-            Some(common_len(one.contents(), other.contents()))
-        }
-        _ => None,
+/// Returns the bytes of a data segment. `None` means that there is no item.
+fn contents_in<'a: 's, 's, T: Listed<'a>>(
+    item: &'s Option<(Part<'a>, T)>,
+    spaces: &IndexSpaces<'s>,
+) -> Option<&'s [u8]> {
+    let (_, item) = item.as_ref()?;
+    Some(item.text(spaces).contents())
+}
+
+/// Returns the number of bytes that two data segments have in common at their starts. `None` means that they don't
+/// differ, or that there aren't two.
+fn differ_at(one: Option<&[u8]>, other: Option<&[u8]>) -> Option<usize> {
+    let (one, other) = (one?, other?);
+    if one == other {
+        return None;
     }
+    Some(common_len(one, other))
 }
 
 /// Returns what a module has in place of an item, with its bytes from `row` on.
-fn item_side<'a, T: Listed>(
+fn item_side<'a, T: Listed<'a>>(
     alloc: Global,
     item: &Option<(Part<'a>, T)>,
     spaces: &IndexSpaces<'_>,
@@ -384,7 +389,8 @@ fn item_side<'a, T: Listed>(
     let Some((part, item)) = item else {
         return Ok(None);
     };
-    let text = format!(in alloc; "{}", item.text(spaces))?;
+    let item = item.text(spaces);
+    let text = format!(in alloc; "{item}")?;
     let len = item.contents().len();
     let detail = row.map(|common| {
         Detail::Row(row_at(
@@ -548,7 +554,7 @@ fn compare_bodies<'a>(
     let (Some((part, code)), Some((other_part, other_code))) = (one, other) else {
         return Ok(Compared::Different(None, None));
     };
-    if is_same::<CodeBody>(alloc, part, other_part)? {
+    if part.bytes == other_part.bytes {
         return Ok(Compared::Same);
     }
     let (mut code, mut other_code) = (code.again(), other_code.again());
@@ -623,15 +629,41 @@ fn first_calls<'a>(
     other: &mut PartReader<'a>,
 ) -> Result<Compared<'a>, Stop> {
     for _ in 0..one.len().saturating_add(other.len()) {
-        let (first, second) = (next_call(alloc, one)?, next_call(alloc, other)?);
-        if !have_same_text(&first, &second) {
+        let (first, second) = (next_instruction(one)?, next_instruction(other)?);
+        if !are_same_instructions(&first, &second)? {
+            let first = code_detail(alloc, &first)?;
+            let second = code_detail(alloc, &second)?;
             return Ok(Compared::Different(first, second));
         }
     }
-    Ok(Compared::Different(None, None))
+    Ok(Compared::Same)
 }
 
-/// Checks whether two groups of locals or two instructions have the same text.
+/// Checks whether two functions have the same instruction.
+fn are_same_instructions(
+    one: &Option<(Part<'_>, Instruction<'_>)>,
+    other: &Option<(Part<'_>, Instruction<'_>)>,
+) -> Result<bool, Stop> {
+    match (one, other) {
+        (Some((_, one)), Some((_, other))) => one.is_same(other),
+        (None, None) => Ok(true),
+        _ => Ok(false),
+    }
+}
+
+/// Returns an instruction with its text.
+fn code_detail<'a>(
+    alloc: Global,
+    instruction: &Option<(Part<'a>, Instruction<'a>)>,
+) -> Result<Option<Detail<'a>>, AllocError> {
+    let Some((part, instruction)) = instruction else {
+        return Ok(None);
+    };
+    let text = format!(in alloc; "{instruction}")?;
+    Ok(Some(Detail::Code(*part, text)))
+}
+
+/// Checks whether two groups of locals have the same text.
 fn have_same_text(one: &Option<Detail<'_>>, other: &Option<Detail<'_>>) -> bool {
     match (one, other) {
         (Some(Detail::Code(_, one)), Some(Detail::Code(_, other))) => one == other,
@@ -656,11 +688,11 @@ fn next_group<'a>(
 }
 
 /// Reads the next instruction of a function, if there is one.
-fn next_call<'a>(alloc: Global, code: &mut PartReader<'a>) -> Result<Option<Detail<'a>>, Stop> {
+fn next_instruction<'a>(
+    code: &mut PartReader<'a>,
+) -> Result<Option<(Part<'a>, Instruction<'a>)>, Stop> {
     if code.len() == 0 {
         return Ok(None);
     }
-    let (part, call) = code.item::<Call>(0)?;
-    let text = format!(in alloc; "{call}")?;
-    Ok(Some(Detail::Code(part, text)))
+    Ok(Some(Instruction::read(code)?))
 }

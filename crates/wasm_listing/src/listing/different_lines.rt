@@ -66,7 +66,7 @@ fn write_side<W: io::Write>(
         lines.item_of(&side.part, &side.text)?;
     }
     match &side.detail {
-        Some(Detail::Code(part, text)) => lines.code_of(part, text.as_str()),
+        Some(Detail::Code(part, text)) => lines.code_of(part, text),
         Some(Detail::Row(part)) => lines.row_of(part),
         None => Ok(()),
     }

@@ -1,15 +1,12 @@
 //! The parts in which two modules differ, as JSON.
-use crate::json::Object;
+use crate::json::ObjectWriter;
 use crate::listing::{Detail, Differences, DifferentPart, Part, Side, Stop};
 use crate::sections::kind_name;
-use serde_json::{Value, json};
-use std::alloc::{AllocError, Global};
 use std::{fmt, io};
 
 /// A writer of the parts that differ as JSON: the values of an array, whose brackets the caller writes.
 #[derive(Drop)]
 pub struct DifferentValues<'w, W> {
-    alloc: Global,
     writer: &'w mut W,
     /// Whether a value was written.
     has_members: bool,
@@ -17,9 +14,8 @@ pub struct DifferentValues<'w, W> {
 
 impl<'w, W: io::Write> DifferentValues<'w, W> {
     /// Returns a writer of values.
-    pub fn new(alloc: Global, writer: &'w mut W) -> DifferentValues<'w, W> {
+    pub fn new(writer: &'w mut W) -> DifferentValues<'w, W> {
         DifferentValues {
-            alloc,
             writer,
             has_members: false,
         }
@@ -28,12 +24,12 @@ impl<'w, W: io::Write> DifferentValues<'w, W> {
 
 impl<W: io::Write> Differences for DifferentValues<'_, W> {
     fn part(&mut self, part: &DifferentPart<'_>) -> Result<(), Stop> {
-        let value = part_value(self.alloc, part)?;
         if self.has_members {
             write!(self.writer, ",")?;
         }
         self.has_members = true;
-        write!(self.writer, "\n{value}")?;
+        writeln!(self.writer)?;
+        write_part(self.writer, part)?;
         Ok(())
     }
 }
@@ -59,46 +55,72 @@ impl Differences for FirstItem {
     }
 }
 
-/// Returns a part that differs.
-fn part_value(alloc: Global, part: &DifferentPart<'_>) -> Result<Value, AllocError> {
-    let (first, second) = (part.first_number, part.second_number);
-    let mut object = Object::new(alloc);
+/// Writes a part that differs.
+fn write_part<W: io::Write>(writer: &mut W, part: &DifferentPart<'_>) -> io::Result<()> {
+    let mut object = ObjectWriter::new(writer);
     object.put("id", part.section.id)?;
-    object.put("kind", kind_name(part.section.id))?;
-    object.put("sections", json!(in alloc; [first, second])?)?;
-    object.put("item", part.item)?;
-    object.put("first", side_value(alloc, &part.first)?)?;
-    object.put("second", side_value(alloc, &part.second)?)?;
-    Ok(object.into_value())
+    object.put_text("kind", &kind_name(part.section.id))?;
+    let (first, second) = (Index(part.first_number), Index(part.second_number));
+    object.put("sections", format_args!("[{first},{second}]"))?;
+    object.put_option("item", part.item)?;
+    put_side(&mut object, "first", &part.first)?;
+    put_side(&mut object, "second", &part.second)?;
+    object.end()
 }
 
-/// Returns what a module has. `Null` means nothing.
-fn side_value(alloc: Global, side: &Option<Side<'_>>) -> Result<Value, AllocError> {
+/// The number of a section, or `null`.
+#[derive(Clone, Copy)]
+struct Index(Option<usize>);
+
+impl fmt::Display for Index {
+    fn fmt<W: fmt::Write>(&self, f: &mut fmt::Formatter<W>) -> fmt::Result {
+        match self.0 {
+            Some(number) => write!(f, "{number}"),
+            None => f.write_str("null"),
+        }
+    }
+}
+
+/// Writes what a module has, or `null`.
+fn put_side<W: io::Write>(
+    object: &mut ObjectWriter<'_, W>,
+    name: &str,
+    side: &Option<Side<'_>>,
+) -> io::Result<()> {
     let Some(side) = side else {
-        return Ok(Value::Null);
+        return object.put(name, "null");
     };
-    let mut object = Object::new(alloc);
-    object.put("offset", side.part.at)?;
-    object.put("size", side.part.bytes.len())?;
-    object.put("text", side.text.as_str())?;
-    object.put("detail", detail_value(alloc, &side.detail)?)?;
-    Ok(object.into_value())
+    let mut value = object.object(name)?;
+    put_part(&mut value, &side.part, &side.text)?;
+    put_detail(&mut value, &side.detail)?;
+    value.end()
 }
 
-/// Returns the first detail that differs. `Null` means that there is none.
-fn detail_value(alloc: Global, detail: &Option<Detail<'_>>) -> Result<Value, AllocError> {
+/// Writes the first detail that differs, or `null`.
+fn put_detail<W: io::Write>(
+    object: &mut ObjectWriter<'_, W>,
+    detail: &Option<Detail<'_>>,
+) -> io::Result<()> {
     let Some(detail) = detail else {
-        return Ok(Value::Null);
+        return object.put("detail", "null");
     };
-    let (Detail::Code(part, _) | Detail::Row(part)) = detail;
-    let mut object = Object::new(alloc);
+    let mut value = object.object("detail")?;
+    match detail {
+        Detail::Code(part, text) => put_part(&mut value, part, text)?,
+        Detail::Row(part) => put_part(&mut value, part, &RowText(part))?,
+    }
+    value.end()
+}
+
+/// Writes the place and the text of a part.
+fn put_part<W: io::Write, D: fmt::Display>(
+    object: &mut ObjectWriter<'_, W>,
+    part: &Part<'_>,
+    text: &D,
+) -> io::Result<()> {
     object.put("offset", part.at)?;
     object.put("size", part.bytes.len())?;
-    match detail {
-        Detail::Code(_, text) => object.put("text", text.as_str())?,
-        Detail::Row(part) => object.put_display("text", &RowText(part))?,
-    }
-    Ok(object.into_value())
+    object.put_text("text", text)
 }
 
 /// Bytes in hexadecimal digits.

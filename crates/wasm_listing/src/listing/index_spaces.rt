@@ -1,15 +1,15 @@
 //! The indexes of items in a module (Core 3.0, Indices).
-use crate::listing::{ItemName, ItemNames, ItemText};
+use crate::listing::{
+    ItemName, ItemNames, ItemText, Part, PartReader, Segment, Stop, Types, read_data,
+};
 use wasm_externals::limits::MemoryType;
 use wasm_externals::types::{EntityType, TagType};
 use wasm_modules::indices::IndexSpace;
 use wasm_sections::data::DataSegment;
-use wasm_sections::elements::Element;
 use wasm_sections::exports::Export;
 use wasm_sections::globals::Global;
 use wasm_sections::imports::Import;
 use wasm_sections::tables::Table;
-use wasm_types::types::TypeEntry;
 
 /// The next index of each kind of item, and the names of items.
 #[derive(Clone, Copy)]
@@ -54,6 +54,11 @@ impl<'n> IndexSpaces<'n> {
         self.name(IndexSpace::Functions, function)
     }
 
+    /// Returns the index of the next function whose body comes.
+    pub fn body(&self) -> u32 {
+        self.bodies
+    }
+
     /// Returns the index of the next function whose body comes, and counts it.
     pub fn next_body(&mut self) -> u32 {
         let index = self.bodies;
@@ -68,34 +73,43 @@ fn increment(index: &mut u32) {
 }
 
 /// An item that a listing shows.
-pub trait Listed {
+pub trait Listed<'a>: Drop + Sized {
+    /// Reads the item with this number.
+    fn read(parts: &mut PartReader<'a>, number: u32) -> Result<(Part<'a>, Self), Stop>;
+
     /// Returns the item's text, with its index.
     fn text<'i>(&'i self, spaces: &IndexSpaces<'i>) -> ItemText<'i>;
 
+    /// Checks whether two items are the same.
+    fn is_same(&self, other: &Self) -> Result<bool, Stop>;
+
     /// Counts the item.
     fn count(&self, spaces: &mut IndexSpaces<'_>);
-
-    /// Returns the bytes of a data segment.
-    fn contents(&self) -> &[u8] {
-        &[]
-    }
 }
 
-impl Listed for TypeEntry {
+impl<'a> Listed<'a> for Types<'a> {
+    fn read(parts: &mut PartReader<'a>, number: u32) -> Result<(Part<'a>, Types<'a>), Stop> {
+        Types::read(parts, number)
+    }
+
     fn text<'i>(&'i self, spaces: &IndexSpaces<'i>) -> ItemText<'i> {
         ItemText::Types(self, spaces.types, spaces.names)
     }
 
+    fn is_same(&self, other: &Self) -> Result<bool, Stop> {
+        Types::is_same(self, other)
+    }
+
     fn count(&self, spaces: &mut IndexSpaces<'_>) {
-        let count = match self {
-            TypeEntry::Sub(_) => 1,
-            TypeEntry::Rec(types) => u32::try_from(types.len()).unwrap_or(u32::MAX),
-        };
-        spaces.types = spaces.types.saturating_add(count);
+        spaces.types = spaces.types.saturating_add(self.count);
     }
 }
 
-impl Listed for Import<'_> {
+impl<'a> Listed<'a> for Import<'a> {
+    fn read(parts: &mut PartReader<'a>, number: u32) -> Result<(Part<'a>, Import<'a>), Stop> {
+        parts.item::<Import<'a>>(number)
+    }
+
     fn text<'i>(&'i self, spaces: &IndexSpaces<'i>) -> ItemText<'i> {
         let (space, index) = match self.ty {
             EntityType::Function(_) | EntityType::FunctionExact(_) => {
@@ -107,6 +121,10 @@ impl Listed for Import<'_> {
             EntityType::Tag(_) => (IndexSpace::Tags, spaces.tags),
         };
         ItemText::Import(*self, index, spaces.names.given(space, index))
+    }
+
+    fn is_same(&self, other: &Self) -> Result<bool, Stop> {
+        Ok(self.module == other.module && self.field == other.field && self.ty == other.ty)
     }
 
     fn count(&self, spaces: &mut IndexSpaces<'_>) {
@@ -123,7 +141,11 @@ impl Listed for Import<'_> {
     }
 }
 
-impl Listed for u32 {
+impl<'a> Listed<'a> for u32 {
+    fn read(parts: &mut PartReader<'a>, number: u32) -> Result<(Part<'a>, u32), Stop> {
+        parts.item::<u32>(number)
+    }
+
     fn text<'i>(&'i self, spaces: &IndexSpaces<'i>) -> ItemText<'i> {
         ItemText::Function(
             spaces.functions,
@@ -132,15 +154,27 @@ impl Listed for u32 {
         )
     }
 
+    fn is_same(&self, other: &Self) -> Result<bool, Stop> {
+        Ok(*self == *other)
+    }
+
     fn count(&self, spaces: &mut IndexSpaces<'_>) {
         increment(&mut spaces.functions);
     }
 }
 
-impl Listed for Table {
+impl<'a> Listed<'a> for Table {
+    fn read(parts: &mut PartReader<'a>, number: u32) -> Result<(Part<'a>, Table), Stop> {
+        parts.item::<Table>(number)
+    }
+
     fn text<'i>(&'i self, spaces: &IndexSpaces<'i>) -> ItemText<'i> {
         let name = spaces.name(IndexSpace::Tables, spaces.tables);
         ItemText::Table(self, spaces.tables, name)
+    }
+
+    fn is_same(&self, other: &Self) -> Result<bool, Stop> {
+        Ok(*self == *other)
     }
 
     fn count(&self, spaces: &mut IndexSpaces<'_>) {
@@ -148,10 +182,18 @@ impl Listed for Table {
     }
 }
 
-impl Listed for MemoryType {
+impl<'a> Listed<'a> for MemoryType {
+    fn read(parts: &mut PartReader<'a>, number: u32) -> Result<(Part<'a>, MemoryType), Stop> {
+        parts.item::<MemoryType>(number)
+    }
+
     fn text<'i>(&'i self, spaces: &IndexSpaces<'i>) -> ItemText<'i> {
         let name = spaces.name(IndexSpace::Memories, spaces.memories);
         ItemText::Memory(*self, spaces.memories, name)
+    }
+
+    fn is_same(&self, other: &Self) -> Result<bool, Stop> {
+        Ok(*self == *other)
     }
 
     fn count(&self, spaces: &mut IndexSpaces<'_>) {
@@ -159,10 +201,18 @@ impl Listed for MemoryType {
     }
 }
 
-impl Listed for TagType {
+impl<'a> Listed<'a> for TagType {
+    fn read(parts: &mut PartReader<'a>, number: u32) -> Result<(Part<'a>, TagType), Stop> {
+        parts.item::<TagType>(number)
+    }
+
     fn text<'i>(&'i self, spaces: &IndexSpaces<'i>) -> ItemText<'i> {
         let name = spaces.name(IndexSpace::Tags, spaces.tags);
         ItemText::Tag(*self, spaces.tags, name)
+    }
+
+    fn is_same(&self, other: &Self) -> Result<bool, Stop> {
+        Ok(*self == *other)
     }
 
     fn count(&self, spaces: &mut IndexSpaces<'_>) {
@@ -170,10 +220,18 @@ impl Listed for TagType {
     }
 }
 
-impl Listed for Global {
+impl<'a> Listed<'a> for Global {
+    fn read(parts: &mut PartReader<'a>, number: u32) -> Result<(Part<'a>, Global), Stop> {
+        parts.item::<Global>(number)
+    }
+
     fn text<'i>(&'i self, spaces: &IndexSpaces<'i>) -> ItemText<'i> {
         let name = spaces.name(IndexSpace::Globals, spaces.globals);
         ItemText::Global(self, spaces.globals, name)
+    }
+
+    fn is_same(&self, other: &Self) -> Result<bool, Stop> {
+        Ok(*self == *other)
     }
 
     fn count(&self, spaces: &mut IndexSpaces<'_>) {
@@ -181,18 +239,34 @@ impl Listed for Global {
     }
 }
 
-impl Listed for Export<'_> {
+impl<'a> Listed<'a> for Export<'a> {
+    fn read(parts: &mut PartReader<'a>, number: u32) -> Result<(Part<'a>, Export<'a>), Stop> {
+        parts.item::<Export<'a>>(number)
+    }
+
     fn text<'i>(&'i self, _spaces: &IndexSpaces<'i>) -> ItemText<'i> {
         ItemText::Export(*self)
+    }
+
+    fn is_same(&self, other: &Self) -> Result<bool, Stop> {
+        Ok(self.kind == other.kind && self.name == other.name && self.index == other.index)
     }
 
     fn count(&self, _spaces: &mut IndexSpaces<'_>) {}
 }
 
-impl Listed for Element {
+impl<'a> Listed<'a> for Segment<'a> {
+    fn read(parts: &mut PartReader<'a>, number: u32) -> Result<(Part<'a>, Segment<'a>), Stop> {
+        Segment::read(parts, number)
+    }
+
     fn text<'i>(&'i self, spaces: &IndexSpaces<'i>) -> ItemText<'i> {
         let name = spaces.name(IndexSpace::Elements, spaces.elements);
         ItemText::Element(self, spaces.elements, name)
+    }
+
+    fn is_same(&self, other: &Self) -> Result<bool, Stop> {
+        Segment::is_same(self, other)
     }
 
     fn count(&self, spaces: &mut IndexSpaces<'_>) {
@@ -200,17 +274,21 @@ impl Listed for Element {
     }
 }
 
-impl Listed for DataSegment<'_> {
+impl<'a> Listed<'a> for DataSegment<'a> {
+    fn read(parts: &mut PartReader<'a>, number: u32) -> Result<(Part<'a>, DataSegment<'a>), Stop> {
+        read_data(parts, number)
+    }
+
     fn text<'i>(&'i self, spaces: &IndexSpaces<'i>) -> ItemText<'i> {
         let name = spaces.name(IndexSpace::Data, spaces.data);
         ItemText::Data(self, spaces.data, name)
     }
 
-    fn count(&self, spaces: &mut IndexSpaces<'_>) {
-        increment(&mut spaces.data);
+    fn is_same(&self, other: &Self) -> Result<bool, Stop> {
+        Ok(self.mode == other.mode && self.bytes == other.bytes)
     }
 
-    fn contents(&self) -> &[u8] {
-        self.bytes
+    fn count(&self, spaces: &mut IndexSpaces<'_>) {
+        increment(&mut spaces.data);
     }
 }

@@ -1,4 +1,5 @@
 //! Text of instructions.
+use crate::listing::Instruction;
 use std::fmt;
 use wasm_instructions::table::{Call, Opcode, Operands, Prefix};
 use wasm_modules::indices::{IndexSpace, index_spaces};
@@ -56,7 +57,10 @@ impl Nesting {
 
 /// Returns the index of the item that an instruction refers to, and its index space. Of two in different spaces this is
 /// the first. `None` means that it refers to none, or to two in one space.
-pub fn item_of(call: &Call) -> Option<(IndexSpace, u32)> {
+pub fn item_of(instruction: &Instruction<'_>) -> Option<(IndexSpace, u32)> {
+    let Instruction::Read(call) = instruction else {
+        return None;
+    };
     let index = match call.operands() {
         Operands::Index(index)
         | Operands::TwoIndexes(index, _)

@@ -1,27 +1,25 @@
 //! Text of the items of sections.
 use crate::listing::instructions::ExprText;
 use crate::listing::types::EntryText;
-use crate::listing::{ItemName, ItemNames, NameText};
+use crate::listing::{ItemName, ItemNames, NameText, Segment, Types};
 use escaped_text::Escaped;
 use std::fmt;
 use wasm_externals::limits::{MemoryType, TableType};
 use wasm_externals::types::{EntityType, ExportKind, GlobalType, TagType};
-use wasm_instructions::table::Call;
-use wasm_lists::list::Items;
 use wasm_modules::indices::IndexSpace;
 use wasm_sections::data::{DataSegment, DataSegmentMode};
-use wasm_sections::elements::{Element, ElementMode, Elements};
+use wasm_sections::elements::{ElementMode, Elements};
 use wasm_sections::exports::Export;
 use wasm_sections::globals::Global;
 use wasm_sections::imports::Import;
 use wasm_sections::tables::Table;
-use wasm_types::types::{TypeEntry, ValType};
+use wasm_types::types::ValType;
 
 /// An item of a section, with the index and the name that it has in the module.
 #[derive(Clone, Copy)]
 pub enum ItemText<'i> {
     /// An entry of a type section, the index of its first type, and the names of types.
-    Types(&'i TypeEntry, u32, &'i ItemNames<'i>),
+    Types(&'i Types<'i>, u32, &'i ItemNames<'i>),
     /// An import.
     Import(Import<'i>, u32, Option<ItemName<'i>>),
     /// A function: its index, type index and name.
@@ -39,7 +37,7 @@ pub enum ItemText<'i> {
     /// The start function: its index and name.
     Start(u32, Option<ItemName<'i>>),
     /// An element segment.
-    Element(&'i Element, u32, Option<ItemName<'i>>),
+    Element(&'i Segment<'i>, u32, Option<ItemName<'i>>),
     /// The number of data segments.
     DataCount(u32),
     /// A function's body: its index and name.
@@ -49,10 +47,21 @@ pub enum ItemText<'i> {
 }
 
 impl<'i> ItemText<'i> {
+    /// Returns the bytes of a data segment. Other items have none.
+    pub fn contents(&self) -> &'i [u8] {
+        match self {
+            ItemText::Data(data, ..) => data.bytes,
+            _ => &[],
+        }
+    }
+
     /// Returns the name of the item. The names of a group of types are in its text.
     pub fn name(&self) -> Option<ItemName<'i>> {
         match self {
-            ItemText::Types(TypeEntry::Sub(_), first, names) => {
+            ItemText::Types(entry, first, names) => {
+                if entry.is_group {
+                    return None;
+                }
                 names.get(IndexSpace::Types, *first)
             }
             ItemText::Import(_, _, name)
@@ -65,7 +74,7 @@ impl<'i> ItemText<'i> {
             | ItemText::Data(_, _, name)
             | ItemText::Start(_, name)
             | ItemText::Body(_, name) => *name,
-            ItemText::Types(..) | ItemText::Export(_) | ItemText::DataCount(_) => None,
+            ItemText::Export(_) | ItemText::DataCount(_) => None,
         }
     }
 }
@@ -106,7 +115,7 @@ impl fmt::Display for Unnamed<'_, '_> {
                 write!(f, "{kind}[{}] -> \"{name}\"", export.index)
             }
             ItemText::Start(index, _) | ItemText::Body(index, _) => write!(f, "func[{index}]"),
-            ItemText::Element(element, index, _) => write_element(f, element, *index),
+            ItemText::Element(segment, index, _) => write_segment(f, segment, *index),
             ItemText::DataCount(count) => {
                 let plural = if *count == 1 { "" } else { "s" };
                 write!(f, "{count} data segment{plural}")
@@ -117,7 +126,7 @@ impl fmt::Display for Unnamed<'_, '_> {
 }
 
 /// A group of locals: how many, and their type.
-#[derive(Clone, Copy)]
+#[derive(Clone, Copy, PartialEq, Eq)]
 pub struct LocalsText(pub u32, pub ValType);
 
 impl fmt::Display for LocalsText {
@@ -227,13 +236,13 @@ impl fmt::Display for GlobalText {
     }
 }
 
-fn write_element<W: fmt::Write>(
+fn write_segment<W: fmt::Write>(
     f: &mut fmt::Formatter<W>,
-    element: &Element,
+    segment: &Segment<'_>,
     index: u32,
 ) -> fmt::Result {
     write!(f, "segment[{index}] ")?;
-    match &element.mode {
+    match &segment.head.mode {
         ElementMode::Passive => write!(f, "passive")?,
         ElementMode::Declared => write!(f, "declared")?,
         ElementMode::Active {
@@ -244,31 +253,11 @@ fn write_element<W: fmt::Write>(
             write!(f, "active table {table_index} offset {offset}")?;
         }
     }
-    match &element.elements {
-        Elements::Functions(indexes) => write_functions(f, indexes.as_slice()),
-        Elements::Expressions(ty, expressions) => {
-            write!(f, ": {ty}")?;
-            write_expressions(f, expressions.as_slice())
-        }
+    match &segment.head.elements {
+        Elements::Functions(_) => write!(f, ": func")?,
+        Elements::Expressions(ty, _) => write!(f, ": {ty}")?,
     }
-}
-
-fn write_functions<W: fmt::Write>(f: &mut fmt::Formatter<W>, indexes: &[u32]) -> fmt::Result {
-    write!(f, ": func")?;
-    for index in indexes {
-        write!(f, " {index}")?;
-    }
-    Ok(())
-}
-
-fn write_expressions<W: fmt::Write>(
-    f: &mut fmt::Formatter<W>,
-    expressions: &[Items<Call>],
-) -> fmt::Result {
-    for expression in expressions {
-        write!(f, " [{}]", ExprText(expression.as_slice()))?;
-    }
-    Ok(())
+    segment.write_elements(f)
 }
 
 fn write_data<W: fmt::Write>(

@@ -1,14 +1,13 @@
 //! The listing as text, in lines of at most 80 columns if names, numbers and nesting allow it.
 use crate::listing::{
-    CustomText, FunctionHead, ItemName, ItemText, Listing, LocalsText, Longer, Nesting, Part,
-    SectionHead, Stop,
+    CustomText, FunctionHead, Instruction, ItemName, ItemText, Listing, LocalsText, Longer,
+    Nesting, Part, SectionHead, Stop,
 };
 use crate::sections::SectionTitle;
 use escaped_text::Escaped;
 use std::fmt::Write;
 use std::{fmt, io};
 use wasm_codec::reader::names::section_names;
-use wasm_instructions::table::Call;
 use wasm_types::types::ValType;
 
 /// Number of columns of a terminal.
@@ -70,7 +69,7 @@ impl<'w, W: io::Write> Lines<'w, W> {
     }
 
     /// Writes the offset and the bytes of a part of a function, and then this text.
-    pub fn code_of(&mut self, part: &Part<'_>, text: &str) -> Result<(), Stop> {
+    pub fn code_of<D: fmt::Display>(&mut self, part: &Part<'_>, text: &D) -> Result<(), Stop> {
         let left = begin_code(self.writer, self.lead, part, 0)?;
         let mut line = Line::new(self.writer, CODE_COLUMN, left);
         let written = write!(line, "{text}{}", Mark("", part.longer()));
@@ -167,18 +166,18 @@ impl<W: io::Write> Listing for Lines<'_, W> {
     fn call(
         &mut self,
         part: &Part<'_>,
-        call: &Call,
+        instruction: &Instruction<'_>,
         name: Option<ItemName<'_>>,
     ) -> Result<(), Stop> {
-        let nesting = Nesting::of(call.op());
+        let nesting = Nesting::of(instruction.op());
         let depth = nesting.own_depth(self.depth);
         self.depth = nesting.next_depth(self.depth);
         let indent = depth.min(DEEPEST).saturating_mul(2);
         let left = begin_code(self.writer, self.lead, part, indent)?;
         let mut line = Line::new(self.writer, CODE_COLUMN.saturating_add(indent), left);
         let written = match name {
-            Some(name) => write!(line, "{call} {}", ShortName(name)),
-            None => write!(line, "{call}"),
+            Some(name) => write!(line, "{instruction} {}", ShortName(name)),
+            None => write!(line, "{instruction}"),
         };
         let written = match written {
             Ok(()) => write!(line, "{}", Mark("", part.longer())),
@@ -413,7 +412,10 @@ impl<'l, 'b, W: io::Write> Line<'l, 'b, W> {
         if let Some(error) = self.error.take() {
             return Err(Stop::from(error));
         }
-        let _ = written;
+        // Texts are read while they are written, which needs memory.
+        if written.is_err() {
+            return Err(Stop::Memory);
+        }
         for _ in 0..self.bytes.len() {
             if self.bytes.is_empty() {
                 break;

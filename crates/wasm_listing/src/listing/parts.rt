@@ -7,10 +7,13 @@ use wasm_codec::encode::EncodeError;
 use wasm_codec::encode::leb128::u32_len;
 use wasm_codec::reader::cursor::Cursor;
 use wasm_codec::rewriter::Rewriter;
+use wasm_externals::expressions::{encode_expr, read_expr};
 use wasm_externals::names::read_name;
+use wasm_instructions::table::Call;
 use wasm_lists::encode::Encode;
+use wasm_lists::list::Items;
 use wasm_lists::readable::Readable;
-use wasm_types::types::ValType;
+use wasm_types::types::{RefType, ValType, take_ref_type};
 
 /// A part of a module.
 #[derive(Clone, Copy)]
@@ -100,7 +103,7 @@ impl<'a> PartReader<'a> {
     }
 
     /// Returns the number of bytes of the body before the next part.
-    fn position(&self) -> usize {
+    pub fn position(&self) -> usize {
         let body = self.located.section.body;
         body.len().saturating_sub(self.cursor.to_end())
     }
@@ -121,16 +124,21 @@ impl<'a> PartReader<'a> {
         self.located.offset_of(self.position())
     }
 
-    /// Begins a part of several numbers, names and bytes. Returns the number of bytes of the body before it.
-    pub fn begin(&mut self) -> usize {
-        self.cursor.set_minimal(true);
-        self.position()
-    }
-
     /// Returns the part that began at `start` and ends here. Its minimal encoding has `minimal` bytes.
     pub fn part_from(&self, number: u32, start: usize, minimal: usize) -> Part<'a> {
-        let is_minimal = self.cursor.is_minimal();
-        self.part(number, start, if is_minimal { None } else { Some(minimal) })
+        let part = self.part(number, start, None);
+        if minimal < part.bytes.len() {
+            return Part {
+                minimal: Some(minimal),
+                ..part
+            };
+        }
+        part
+    }
+
+    /// Checks whether this is the next byte.
+    pub fn next_is(&self, byte: u8) -> bool {
+        self.left().first() == Some(&byte)
     }
 
     /// Reads a byte.
@@ -172,14 +180,69 @@ impl<'a> PartReader<'a> {
     /// Reads the item with this number.
     pub fn item<T: Readable<'a>>(&mut self, number: u32) -> Result<(Part<'a>, T), Stop> {
         let start = self.position();
+        let (item, minimal) = self.piece::<T>()?;
+        Ok((self.part_from(number, start, minimal), item))
+    }
+
+    /// Reads a value.
+    pub fn value<T: Readable<'a>>(&mut self) -> Result<T, Stop> {
+        Ok(T::read(self.alloc, &mut self.cursor)?)
+    }
+
+    /// Reads a piece of an item. Returns it, and the length of its minimal encoding.
+    pub fn piece<T: Readable<'a>>(&mut self) -> Result<(T, usize), Stop> {
+        let start = self.position();
         self.cursor.set_minimal(true);
-        let item = T::read(self.alloc, &mut self.cursor)?;
-        let part = self.part(number, start, None);
+        let piece = self.value::<T>()?;
+        let bytes = self.part(0, start, None).bytes;
         if self.cursor.is_minimal() {
-            return Ok((part, item));
+            return Ok((piece, bytes.len()));
         }
-        let minimal = Some(minimal_len::<T>(self.alloc, part.bytes)?);
-        Ok((Part { minimal, ..part }, item))
+        let minimal = minimal_len::<T>(self.alloc, bytes)?;
+        Ok((piece, minimal))
+    }
+
+    /// Passes pieces of an item. Returns the sum of the lengths of their minimal encodings.
+    pub fn pass<T: Readable<'a>>(&mut self, count: u32) -> Result<usize, Stop> {
+        let mut minimal = 0usize;
+        for _ in 0..count {
+            let (_, len) = self.piece::<T>()?;
+            minimal = minimal.saturating_add(len);
+        }
+        Ok(minimal)
+    }
+
+    /// Reads an expression. Returns its instructions, and the length of its minimal encoding.
+    pub fn expression(&mut self) -> Result<(Items<Call>, usize), Stop> {
+        let start = self.position();
+        self.cursor.set_minimal(true);
+        let calls = read_expr(self.alloc, &mut self.cursor)?;
+        if self.cursor.is_minimal() {
+            let len = self.position().saturating_sub(start);
+            return Ok((calls, len));
+        }
+        let len = expression_len(self.alloc, calls.as_slice())?;
+        Ok((calls, len))
+    }
+
+    /// Passes expressions. Returns the sum of the lengths of their minimal encodings.
+    pub fn pass_expressions(&mut self, count: u32) -> Result<usize, Stop> {
+        let mut minimal = 0usize;
+        for _ in 0..count {
+            let (_, len) = self.expression()?;
+            minimal = minimal.saturating_add(len);
+        }
+        Ok(minimal)
+    }
+
+    /// Reads a reference type.
+    pub fn ref_type(&mut self) -> Result<RefType, Stop> {
+        Ok(take_ref_type(&mut self.cursor)?)
+    }
+
+    /// Returns the allocator for what is read.
+    pub fn alloc(&self) -> Global {
+        self.alloc
     }
 
     /// Reads the group of locals with this number: how many locals, and their type.
@@ -191,7 +254,7 @@ impl<'a> PartReader<'a> {
         if self.cursor.is_minimal() {
             return Ok((part, (count, ty)));
         }
-        let minimal = Some(u32_len(count).saturating_add(type_len(self.alloc, ty)?));
+        let minimal = Some(u32_len(count).saturating_add(encoded_len(self.alloc, &ty)?));
         Ok((Part { minimal, ..part }, (count, ty)))
     }
 
@@ -213,34 +276,20 @@ fn minimal_len<'a, T: Readable<'a>>(alloc: Global, bytes: &[u8]) -> Result<usize
     }
 }
 
-/// Checks whether two items have the same minimal encoding.
-pub fn is_same<'a, T: Readable<'a>>(
-    alloc: Global,
-    first: &Part<'_>,
-    second: &Part<'_>,
-) -> Result<bool, AllocError> {
-    if first.bytes == second.bytes {
-        return Ok(true);
-    }
-    let first = minimal_bytes::<T>(alloc, first.bytes)?;
-    let second = minimal_bytes::<T>(alloc, second.bytes)?;
-    Ok(first == second)
-}
-
-/// Returns the minimal encoding of the item that the bytes encode.
-fn minimal_bytes<'a, T: Readable<'a>>(alloc: Global, bytes: &[u8]) -> Result<Vec<u8>, AllocError> {
-    let mut copy = Vec::from_slice(alloc, bytes)?;
-    let mut rewriter = Rewriter::new(copy.as_mut_slice());
-    let _ = T::rewrite(&mut rewriter);
-    let len = rewriter.finish().len;
-    copy.truncate(len);
-    Ok(copy)
-}
-
-/// Returns the length of the minimal encoding of a value type.
-fn type_len(alloc: Global, ty: ValType) -> Result<usize, Stop> {
+/// Returns the length of the minimal encoding of a value.
+pub fn encoded_len<T: Encode>(alloc: Global, value: &T) -> Result<usize, Stop> {
     let mut bytes = Vec::new(alloc);
-    match ty.encode(&mut bytes) {
+    match value.encode(&mut bytes) {
+        Ok(()) => Ok(bytes.len()),
+        Err(EncodeError::Memory) => Err(Stop::Memory),
+        Err(_) => Ok(0),
+    }
+}
+
+/// Returns the length of the minimal encoding of an expression.
+fn expression_len(alloc: Global, calls: &[Call]) -> Result<usize, Stop> {
+    let mut bytes = Vec::new(alloc);
+    match encode_expr(calls, &mut bytes) {
         Ok(()) => Ok(bytes.len()),
         Err(EncodeError::Memory) => Err(Stop::Memory),
         Err(_) => Ok(0),

@@ -1,8 +1,7 @@
 //! A listing that shows nothing. It counts the items of a section.
 use crate::listing::{
-    CustomText, FunctionHead, ItemName, ItemText, Listing, Part, SectionHead, Stop,
+    CustomText, FunctionHead, Instruction, ItemName, ItemText, Listing, Part, SectionHead, Stop,
 };
-use wasm_instructions::table::Call;
 use wasm_types::types::ValType;
 
 /// A listing that shows nothing.
@@ -37,7 +36,7 @@ impl Listing for Silent {
     fn call(
         &mut self,
         _part: &Part<'_>,
-        _call: &Call,
+        _instruction: &Instruction<'_>,
         _name: Option<ItemName<'_>>,
     ) -> Result<(), Stop> {
         Ok(())

@@ -1,17 +1,16 @@
 //! Text of types.
-use crate::listing::{ItemNames, NameText};
+use crate::listing::{ItemNames, NameText, Types};
 use std::fmt;
 use wasm_modules::indices::IndexSpace;
 use wasm_types::types::{
-    CompositeInnerType, CompositeType, FieldType, FuncType, StorageType, SubType, TypeEntry,
-    ValType,
+    CompositeInnerType, CompositeType, FieldType, FuncType, StorageType, SubType, ValType,
 };
 
 /// An entry of a type section, with the index of its first type. The types of a group are followed by their names.
 #[derive(Clone, Copy)]
 pub struct EntryText<'a> {
     /// The entry.
-    pub entry: &'a TypeEntry,
+    pub entry: &'a Types<'a>,
     /// Index of its first type.
     pub first: u32,
     /// Names of types.
@@ -20,17 +19,23 @@ pub struct EntryText<'a> {
 
 impl fmt::Display for EntryText<'_> {
     fn fmt<W: fmt::Write>(&self, f: &mut fmt::Formatter<W>) -> fmt::Result {
-        let first = self.first;
-        let types = match self.entry {
-            TypeEntry::Sub(ty) => return write!(f, "type[{first}] {}", SubText(ty)),
-            TypeEntry::Rec(types) => types.as_slice(),
-        };
-        write!(f, "rec")?;
-        for (number, ty) in types.iter().enumerate() {
-            let index = first.saturating_add(u32::try_from(number).unwrap_or(u32::MAX));
+        let is_group = self.entry.is_group;
+        if is_group {
+            write!(f, "rec")?;
+        }
+        let mut types = self.entry.types();
+        for number in 0..self.entry.count {
+            // Only memory can be missing, since the types were read before.
+            let Ok((ty, _)) = types.piece::<SubType>() else {
+                return Err(fmt::Error);
+            };
+            let index = self.first.saturating_add(number);
             let separator = if number == 0 { "" } else { "," };
-            let name = NameText(self.names.get(IndexSpace::Types, index));
-            write!(f, "{separator} type[{index}] {}{name}", SubText(ty))?;
+            let space = if is_group { " " } else { "" };
+            write!(f, "{separator}{space}type[{index}] {}", SubText(&ty))?;
+            if is_group {
+                write!(f, "{}", NameText(self.names.get(IndexSpace::Types, index)))?;
+            }
         }
         Ok(())
     }
