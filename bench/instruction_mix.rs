@@ -223,10 +223,10 @@ fn main() {
     let bodies: u32 = words.next().map_or(1, |word| word.parse().unwrap());
     let made = words.next();
     let write = match made.as_deref() {
-        None | Some("mix") => mix::write,
+        None | Some("mix" | "room") => mix::write,
         Some("apart") => apart::write,
         Some("lists") => lists::write,
-        Some(other) => panic!("{} is none of mix, apart and lists", other),
+        Some(other) => panic!("{} is none of mix, room, apart and lists", other),
     };
     let mut code = Vec::new();
     let mut total: u64 = 0;

@@ -11,6 +11,7 @@ pub fn write_mix<A: Allocator>(code: &mut Vec<u8, A>, round: u32) -> Result<(), 
         memory_index: 0,
     };
     InstructionSink::new(&mut *code)
+        .with_room(20)?
         .block(BlockType::Result(ValType::I32))?
         .local_get(round % 10)?
         .local_get(round % 200)?

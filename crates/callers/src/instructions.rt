@@ -1,5 +1,5 @@
 //! Instructions that are written, alone and as the body of a function.
-ghost use Rattle.std.specs.Prelude.{◌≡◌, ◌++◌, ◌∷◌, [], ◌+◌, ◌≤◌, length, OnOk};
+ghost use Rattle.std.specs.Prelude.{◌≡◌, ◌++◌, ◌∷◌, [], ◌+◌, ◌≤◌, length, IsOk, OnOk, vec_len, vec_capacity};
 ghost use Rattle.wasm_encoder.specs.Encoding.{byte_list_bytes};
 ghost use Rattle.wasm_encoder.specs.Sink.{IsMinimalCall};
 ghost use Rattle.wasm_instructions.specs.formats.Instructions.{call};
@@ -16,6 +16,22 @@ pub fn add(code: &mut Vec<u8>) -> Result<(), EncodeError>
         code.old.items ++ 0x20 ∷ 0x00 ∷ 0x20 ∷ 0x01 ∷ 0x6a ∷ 0x0b ∷ []) }
 {
     InstructionSink::new(&mut *code)
+        .local_get(0)?
+        .local_get(1)?
+        .i32_add()?
+        .end()?;
+    Ok(())
+}
+
+/// Appends the same instructions after it reserved room for them. Nothing else can fail.
+#[tactic(auto, unfolding(wasm_encoder::proofs::OnLiterals::wasm_encoder_on_literals))]
+pub fn add_in_room(code: &mut Vec<u8>) -> Result<(), EncodeError>
+    ensures written { OnOk result (code.new.items ≡
+        code.old.items ++ 0x20 ∷ 0x00 ∷ 0x20 ∷ 0x01 ∷ 0x6a ∷ 0x0b ∷ []) }
+    ensures room { vec_len code.old + 96 ≤ vec_capacity code.old → IsOk result }
+{
+    InstructionSink::new(&mut *code)
+        .with_room(4)?
         .local_get(0)?
         .local_get(1)?
         .i32_add()?

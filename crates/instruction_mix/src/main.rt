@@ -2,7 +2,8 @@
 //! and a sum over the last body. `scripts/bench` measures it.
 //!
 //! The first argument is the number of bodies, 1 if there is none. The second says what each is made of: `mix`, which
-//! it is if there is none, `apart`, where no call is written in line, or `lists`, where each instruction has a list.
+//! it is if there is none, `room`, the mix with room for its calls, `apart`, where no call is written in line, or `lists`,
+//! where each instruction has a list.
 #![tactic(auto)]
 
 mod apart;
@@ -11,7 +12,7 @@ mod mix;
 
 use crate::apart::write_mix_apart;
 use crate::lists::write_lists;
-use crate::mix::write_mix;
+use crate::mix::{write_mix, write_mix_in_room};
 use std::alloc::Allocator;
 use std::process::ExitCode;
 use std::{env, io};
@@ -24,6 +25,7 @@ const ROUNDS: u32 = 1000;
 #[derive(Clone, Copy)]
 enum Made {
     Mix,
+    Room,
     Apart,
     Lists,
 }
@@ -33,6 +35,7 @@ fn write_body<A: Allocator>(code: &mut Vec<u8, A>, made: Made) -> Result<(), Enc
     for round in 0..ROUNDS {
         match made {
             Made::Mix => write_mix(code, round)?,
+            Made::Room => write_mix_in_room(code, round)?,
             Made::Apart => write_mix_apart(code, round)?,
             Made::Lists => write_lists(code, round)?,
         }
@@ -74,6 +77,7 @@ fn asked(rt: &HostRuntime) -> io::Result<Option<(u32, Made)>> {
         None => Made::Mix,
         Some(word) => match word.as_str() {
             "mix" => Made::Mix,
+            "room" => Made::Room,
             "apart" => Made::Apart,
             "lists" => Made::Lists,
             _ => return Ok(None),

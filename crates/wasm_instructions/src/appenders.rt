@@ -11,7 +11,7 @@ use crate::encode::put_opcode;
 use crate::table::Opcode;
 pub use items::Item;
 pub(crate) use lists::append_held;
-pub use lists::{Before, append_list_call, append_type, append_type_list};
+pub use lists::{Before, append_list_call, append_type_list};
 use std::alloc::Allocator;
 use wasm_codec::encode::EncodeError;
 

@@ -1,6 +1,6 @@
 -- The promises of the instruction sink. The sink lends a list of bytes; a clause about that list after an `Err` speaks
 -- of the end of the loan.
-use Rattle.std.specs.Prelude.{ℕ, Result, List, [], ◌∷◌, ◌≡◌, ◌++◌, ◌+◌, ◌≤◌, ◌<◌, ◌↔◌, IfOk, IsOk, IsErrOf, MatchResult}
+use Rattle.std.specs.Prelude.{ℕ, Result, List, [], ◌∷◌, ◌≡◌, ◌++◌, ◌+◌, ◌*◌, ◌≤◌, ◌<◌, ◌↔◌, IfOk, IfErr, IsOk, IsErrOf, MatchResult}
 use Rattle.std.specs.Borrow.{RestsIfErr, Fml, u8, RattleType}
 use Rattle.std.specs.Vec.{vec_len, vec_capacity}
 use Rattle.std.specs.contracts.vec.Vec as vec
@@ -64,14 +64,37 @@ module _ {Z : Type 0} where
   abbrev pub HasRoom : InstructionSink Z → Type 0
   HasRoom s = vec_len s.bytes.now + 24 ≤ vec_capacity s.bytes.now
 
+  -- The returned sink has room for all calls that this one had room for, but one.
+  abbrev pub TakesRoom : InstructionSink Z → Result (InstructionSink Z) EncodeError → Type 0
+  TakesRoom s r = IfOk r (λ t. s.calls ≤ t.calls + 1)
+
+  -- The returned sink has the same bytes, and room for so many calls without a list.
+  abbrev pub HasRoomFor : InstructionSink Z → ℕ → Result (InstructionSink Z) EncodeError → Type 0
+  HasRoomFor s calls r = IfOk r (λ t. (bytes_behind t ≡ bytes_behind s) × (calls ≤ t.calls))
+
+  -- It fails with `Memory`, and only if the list had no room for so many calls.
+  abbrev pub LacksRoomFor : InstructionSink Z → ℕ → Result (InstructionSink Z) EncodeError → Type 0
+  LacksRoomFor s calls r = IfErr r (λ e. (e ≡ errors.Memory) × (vec_capacity s.bytes.now < vec_len s.bytes.now + 24 * calls))
+
+  -- `with_room`, called on the sink `s`.
+  pub record Reserves (s : InstructionSink Z) (calls : ℕ) (r : Result (InstructionSink Z) EncodeError) : Type 0 where
+    -- It makes room for so many calls, and leaves the bytes as they were.
+    pub room : HasRoomFor s calls r
+    -- The returned sink writes to the same list.
+    pub same : IsSameSink s r
+    -- It fails with `Memory`, and only if the list had no room for so many calls.
+    pub err : LacksRoomFor s calls r
+
   -- A method of an instruction without a memory argument and without a list, called on the sink `s`.
   pub record Emits (s : InstructionSink Z) (op : Opcode) (operands : Operands) (r : Result (InstructionSink Z) EncodeError) : Type 0 where
     -- It appends the minimal encoding of its call, 1 to 20 bytes, or fails with `Memory`.
     pub wrote : Writes s op operands r
     -- The returned sink writes to the same list.
     pub same : IsSameSink s r
-    -- It succeeds if the list has room for 24 more bytes.
+    -- It succeeds if the list has room for 24 more bytes, and so if the sink has room for a call.
     pub room : HasRoom s → IsOk r
+    -- It takes the room of one call.
+    pub takes : TakesRoom s r
 
   -- A method of an instruction with a memory argument of this alignment, called on the sink `s`.
   pub record EmitsAligned (s : InstructionSink Z) (op : Opcode) (operands : Operands) (align : ℕ) (r : Result (InstructionSink Z) EncodeError) : Type 0 where
@@ -83,6 +106,8 @@ module _ {Z : Type 0} where
     pub alignment : IsErrOf r errors.Alignment ↔ 64 ≤ align
     -- It succeeds if the list has room for 24 more bytes and the alignment is below 64.
     pub room : HasRoom s → align < 64 → IsOk r
+    -- It takes the room of one call.
+    pub takes : TakesRoom s r
 
   -- `write_call`, called on the sink `s`.
   pub record EmitsCall (s : InstructionSink Z) (c : Instruction) (r : Result (InstructionSink Z) EncodeError) : Type 0 where

@@ -1,9 +1,7 @@
 //! The instruction sink: one method for each instruction (Core 3.0, Instructions).
 //!
 //! Methods without a list are inlined always: LLVM counts a call after several `?` as rare, and wouldn't inline it.
-ghost use Rattle.std.specs.Prelude.{◌≡◌};
-ghost use Rattle.std.specs.Borrow.{sem};
-ghost use Rattle.wasm_sink.specs.Sink.{IsUnchangedAtErr, EmitsCall, EmitsCalls};
+ghost use Rattle.std.specs.Prelude.{◌≡◌, ◌+◌, ◌*◌, ◌≤◌, vec_len, vec_capacity};
 
 mod aggregates;
 mod atomics;
@@ -22,6 +20,9 @@ use std::alloc::Allocator;
 use wasm_codec::encode::EncodeError;
 use wasm_instructions::calls::{append_call, append_calls};
 use wasm_instructions::table::Call;
+
+/// The bytes that a call without a list may take.
+const ROOM: usize = 24;
 
 /// Appends instructions to a list of bytes.
 ///
@@ -47,15 +48,47 @@ use wasm_instructions::table::Call;
 #[derive(Drop)]
 pub struct InstructionSink<'a, A: Allocator> {
     bytes: &'a mut Vec<u8, A>,
+    /// For how many calls without a list the list of bytes has room, 24 bytes each.
+    calls: u32,
+    ghost reserved: { vec_len bytes.now + 24 * calls ≤ vec_capacity bytes.now },
 }
 
 impl<'a, A: Allocator> InstructionSink<'a, A> {
+    ghost use Rattle.std.specs.Borrow.{sem};
+    ghost use Rattle.wasm_sink.specs.Sink.{IsUnchangedAtErr, EmitsCall, EmitsCalls, Reserves};
+
     /// Returns a sink that appends to `bytes`.
     pub fn new(bytes: &'a mut Vec<u8, A>) -> InstructionSink<'a, A>
         ensures same_reference { result.bytes.ghost_name ≡ bytes.entry.ghost_name }
         ensures value { result.bytes.now ≡ bytes.old }
     {
-        InstructionSink { bytes }
+        InstructionSink { bytes, calls: 0 }
+    }
+
+    /// Reserves room for `calls` calls. So many calls that follow grow nothing and can't fail with `Memory`, unless one
+    /// of them has a list, or is [`write_call`](InstructionSink::write_call) or
+    /// [`write_calls`](InstructionSink::write_calls), which leave no room.
+    ///
+    /// A call without a list takes up to 24 bytes. In a chain after a constant number of calls, none tests whether it
+    /// has room.
+    ///
+    /// Fails with `Memory` if the list can't grow by 24 bytes for each call.
+    ///
+    /// # Examples
+    ///
+    /// ```
+    /// # use wasm_encoder::InstructionSink;
+    /// let mut code = Vec::new(rt.alloc());
+    /// InstructionSink::new(&mut code).with_room(3)?.local_get(0)?.local_get(1)?.i32_add()?;
+    /// assert_eq!(rt; code.as_slice(), b"\x20\x00\x20\x01\x6a".as_slice());
+    /// ```
+    pub fn with_room(self, calls: u32) -> Result<InstructionSink<'a, A>, EncodeError>
+        ensures reserves { Reserves self.entry calls result }
+        ensures* unchanged { sem 𝓛 (IsUnchangedAtErr A.row A.Allocator self.entry result) }
+    {
+        let InstructionSink { bytes, .. } = self;
+        bytes.reserve(calls as usize * ROOM)?;
+        Ok(InstructionSink { bytes, calls })
     }
 
     /// Appends the minimal encoding of `call`.
@@ -65,9 +98,9 @@ impl<'a, A: Allocator> InstructionSink<'a, A> {
         ensures emits { EmitsCall self.entry call.now result }
         ensures* unchanged { sem 𝓛 (IsUnchangedAtErr A.row A.Allocator self.entry result) }
     {
-        let InstructionSink { bytes } = self;
+        let InstructionSink { bytes, .. } = self;
         append_call(bytes, call)?;
-        Ok(InstructionSink { bytes })
+        Ok(InstructionSink { bytes, calls: 0 })
     }
 
     /// Appends the minimal encodings of `calls`, all of them or none.
@@ -78,8 +111,8 @@ impl<'a, A: Allocator> InstructionSink<'a, A> {
         ensures emits { EmitsCalls self.entry calls.now result }
         ensures* unchanged { sem 𝓛 (IsUnchangedAtErr A.row A.Allocator self.entry result) }
     {
-        let InstructionSink { bytes } = self;
+        let InstructionSink { bytes, .. } = self;
         append_calls(bytes, calls)?;
-        Ok(InstructionSink { bytes })
+        Ok(InstructionSink { bytes, calls: 0 })
     }
 }

@@ -45,6 +45,51 @@ fn chains_with_operands(rt: HostRuntime) -> Result<(), Fail> {
     is(rt.alloc(), code.as_slice(), hex)
 }
 
+/// Room is used up, given up by a list, and made again: the bytes are the same.
+#[test]
+fn chains_with_room(rt: HostRuntime) -> Result<(), Fail> {
+    let mut code = Vec::new(rt.alloc());
+    InstructionSink::new(&mut code)
+        .with_room(2)?
+        .local_get(300)?
+        .i32_load(ARG)?
+        .i32_add()?
+        .with_room(3)?
+        .br_table([1, 2].iter().copied(), 0)?
+        .i8x16_shuffle([31; 16])?
+        .with_room(0)?
+        .end()?;
+    let hex = "20AC02284301086A0E02010200FD0D1F1F1F1F1F1F1F1F1F1F1F1F1F1F1F1F0B";
+    is(rt.alloc(), code.as_slice(), hex)
+}
+
+/// Appends nine instructions of 18 bytes, and may ask for memory once.
+fn append_in_room(alloc: Global) -> Result<usize, EncodeError> {
+    let ration = Rationed::new(alloc, 1);
+    let mut code = Vec::new(&ration);
+    let mut sink = InstructionSink::new(&mut code).with_room(9)?;
+    for _ in 0..9 {
+        sink = sink.i8x16_shuffle([0; 16])?;
+    }
+    Ok(code.len())
+}
+
+#[test]
+fn room_lasts(rt: HostRuntime) {
+    assert!(rt; append_in_room(rt.alloc()) == Ok(162));
+}
+
+/// Room for more bytes than memory has is refused, and the list is as it was.
+#[test]
+fn room_is_refused(rt: HostRuntime) -> Result<(), Fail> {
+    let ration = Rationed::new(rt.alloc(), 1);
+    let mut code = Vec::new(&ration);
+    InstructionSink::new(&mut code).nop()?;
+    let refused = InstructionSink::new(&mut code).with_room(4294967295).err();
+    assert!(rt; refused == Some(EncodeError::Memory));
+    is(rt.alloc(), code.as_slice(), "01")
+}
+
 /// An alignment out of range is refused by methods of each kind with one.
 fn refuses_alignment(code: &mut Vec<u8>, memarg: MemArg) -> bool {
     [

@@ -44,7 +44,7 @@ pub fn append_list_call<T: Item, I: ExactSizeIterator<Item = T>, A: Allocator>(
 
 /// Appends an instruction with a list of one value type.
 #[tactic(auto, unfolding(crate::specs::formats::Instructions::instruction, crate::specs::formats::Instructions::operands_format))]
-pub fn append_type<A: Allocator>(
+fn append_type<A: Allocator>(
     bytes: &mut Vec<u8, A>,
     op: Opcode,
     ty: ValType,

@@ -198,6 +198,8 @@ pub fn put_lanes<A: Allocator>(bytes: &mut Vec<u8, A>, lanes: [Lane; 16])
     requires { vec_len bytes.old + 16 ≤ vec_capacity bytes.old }
     ensures items { bytes.new.items ≡ bytes.old.items ++ lanes_format.bytes lanes }
     ensures fits { NumbersInRange (operands.Shuffle lanes) }
+    ensures len { vec_len bytes.new ≤ vec_len bytes.old + 16 }
+    ensures capacity { vec_capacity bytes.old ≤ vec_capacity bytes.new }
 {
     // It can't fail, because the room is reserved.
     let _ = bytes.extend_from_slice(&lanes);

@@ -6,10 +6,10 @@ ghost use Rattle.wasm_instructions.specs.formats.Opcodes.{after_fd, without_pref
 ghost use Rattle.wasm_instructions.specs.declared.table.call.Operands.TheVariants as operands;
 
 use crate::sink::InstructionSink;
+use crate::sink::emit::append_opcode;
 use std::alloc::Allocator;
 use wasm_codec::encode::EncodeError;
 use wasm_codec::encode::leb128::{put_i32, put_i64};
-use wasm_instructions::appenders::append_opcode;
 use wasm_instructions::encode::{put_bits_32, put_bits_64, put_lanes, put_vector};
 use wasm_instructions::operands::{Ieee32, Ieee64, Lane, V128};
 use wasm_instructions::table::Opcode;
@@ -27,10 +27,10 @@ impl<'a, A: Allocator> InstructionSink<'a, A> {
         ensures emits { Emits self.entry (without_prefix number) (operands.I32 value) result }
         ensures* unchanged { sem 𝓛 (IsUnchangedAtErr A.row A.Allocator self.entry result) }
     {
-        let InstructionSink { bytes } = self;
-        append_opcode(bytes, Opcode::without_prefix(number))?;
+        let InstructionSink { bytes, calls } = self;
+        let calls = append_opcode(bytes, calls, Opcode::without_prefix(number))?;
         put_i32(bytes, value);
-        Ok(InstructionSink { bytes })
+        Ok(InstructionSink { bytes, calls })
     }
 
     /// Appends an instruction without a prefix, with a signed 64-bit number.
@@ -44,10 +44,10 @@ impl<'a, A: Allocator> InstructionSink<'a, A> {
         ensures emits { Emits self.entry (without_prefix number) (operands.I64 value) result }
         ensures* unchanged { sem 𝓛 (IsUnchangedAtErr A.row A.Allocator self.entry result) }
     {
-        let InstructionSink { bytes } = self;
-        append_opcode(bytes, Opcode::without_prefix(number))?;
+        let InstructionSink { bytes, calls } = self;
+        let calls = append_opcode(bytes, calls, Opcode::without_prefix(number))?;
         put_i64(bytes, value);
-        Ok(InstructionSink { bytes })
+        Ok(InstructionSink { bytes, calls })
     }
 
     /// Appends an instruction without a prefix, with the bits of a 32-bit floating-point number.
@@ -61,10 +61,10 @@ impl<'a, A: Allocator> InstructionSink<'a, A> {
         ensures emits { Emits self.entry (without_prefix number) (operands.F32 value) result }
         ensures* unchanged { sem 𝓛 (IsUnchangedAtErr A.row A.Allocator self.entry result) }
     {
-        let InstructionSink { bytes } = self;
-        append_opcode(bytes, Opcode::without_prefix(number))?;
+        let InstructionSink { bytes, calls } = self;
+        let calls = append_opcode(bytes, calls, Opcode::without_prefix(number))?;
         put_bits_32(bytes, value.bits());
-        Ok(InstructionSink { bytes })
+        Ok(InstructionSink { bytes, calls })
     }
 
     /// Appends an instruction without a prefix, with the bits of a 64-bit floating-point number.
@@ -78,10 +78,10 @@ impl<'a, A: Allocator> InstructionSink<'a, A> {
         ensures emits { Emits self.entry (without_prefix number) (operands.F64 value) result }
         ensures* unchanged { sem 𝓛 (IsUnchangedAtErr A.row A.Allocator self.entry result) }
     {
-        let InstructionSink { bytes } = self;
-        append_opcode(bytes, Opcode::without_prefix(number))?;
+        let InstructionSink { bytes, calls } = self;
+        let calls = append_opcode(bytes, calls, Opcode::without_prefix(number))?;
         put_bits_64(bytes, value.bits());
-        Ok(InstructionSink { bytes })
+        Ok(InstructionSink { bytes, calls })
     }
 
     /// Appends an instruction after `0xFD`, with a 128-bit vector.
@@ -95,10 +95,10 @@ impl<'a, A: Allocator> InstructionSink<'a, A> {
         ensures emits { Emits self.entry (after_fd number) (operands.V128 value) result }
         ensures* unchanged { sem 𝓛 (IsUnchangedAtErr A.row A.Allocator self.entry result) }
     {
-        let InstructionSink { bytes } = self;
-        append_opcode(bytes, Opcode::after_fd(number))?;
+        let InstructionSink { bytes, calls } = self;
+        let calls = append_opcode(bytes, calls, Opcode::after_fd(number))?;
         put_vector(bytes, value);
-        Ok(InstructionSink { bytes })
+        Ok(InstructionSink { bytes, calls })
     }
 
     /// Appends an instruction after `0xFD`, with sixteen lane indexes.
@@ -112,10 +112,10 @@ impl<'a, A: Allocator> InstructionSink<'a, A> {
         ensures emits { Emits self.entry (after_fd number) (operands.Shuffle lanes) result }
         ensures* unchanged { sem 𝓛 (IsUnchangedAtErr A.row A.Allocator self.entry result) }
     {
-        let InstructionSink { bytes } = self;
-        append_opcode(bytes, Opcode::after_fd(number))?;
+        let InstructionSink { bytes, calls } = self;
+        let calls = append_opcode(bytes, calls, Opcode::after_fd(number))?;
         put_lanes(bytes, lanes);
-        Ok(InstructionSink { bytes })
+        Ok(InstructionSink { bytes, calls })
     }
 
     /// Appends an instruction after `0xFD`, with one lane index.
@@ -129,9 +129,9 @@ impl<'a, A: Allocator> InstructionSink<'a, A> {
         ensures emits { Emits self.entry (after_fd number) (operands.Lane lane) result }
         ensures* unchanged { sem 𝓛 (IsUnchangedAtErr A.row A.Allocator self.entry result) }
     {
-        let InstructionSink { bytes } = self;
-        append_opcode(bytes, Opcode::after_fd(number))?;
+        let InstructionSink { bytes, calls } = self;
+        let calls = append_opcode(bytes, calls, Opcode::after_fd(number))?;
         bytes.push_reserved(lane);
-        Ok(InstructionSink { bytes })
+        Ok(InstructionSink { bytes, calls })
     }
 }

@@ -29,9 +29,9 @@ impl<'a, A: Allocator> InstructionSink<'a, A> {
         ensures emits { EmitsList self.entry (without_prefix number) (operands.Types types.now) (length types.now) result }
         ensures* unchanged { sem 𝓛 (IsUnchangedAtErr A.row A.Allocator self.entry result) }
     {
-        let InstructionSink { bytes } = self;
+        let InstructionSink { bytes, .. } = self;
         append_type_list(bytes, Opcode::without_prefix(number), types)?;
-        Ok(InstructionSink { bytes })
+        Ok(InstructionSink { bytes, calls: 0 })
     }
 
     /// Appends a branch table: `labels`, and the label `default` for every other operand.
@@ -46,10 +46,10 @@ impl<'a, A: Allocator> InstructionSink<'a, A> {
         ensures emits { EmitsItems I.next_gives self.entry (without_prefix number) (λ xs. operands.BrTable xs default) labels (size (I.remaining labels)) result }
         ensures* unchanged { sem 𝓛 (IsUnchangedAtErr A.row A.Allocator self.entry result) }
     {
-        let InstructionSink { bytes } = self;
+        let InstructionSink { bytes, .. } = self;
         let op = Opcode::without_prefix(number);
         append_list_call(bytes, op, Before::Nothing, labels, Some(default))?;
-        Ok(InstructionSink { bytes })
+        Ok(InstructionSink { bytes, calls: 0 })
     }
 
     /// Appends an instruction with a block type and catch clauses.
@@ -64,10 +64,10 @@ impl<'a, A: Allocator> InstructionSink<'a, A> {
         ensures emits { EmitsItems I.next_gives self.entry (without_prefix number) (λ xs. operands.TryTable block_type xs) clauses (size (I.remaining clauses)) result }
         ensures* unchanged { sem 𝓛 (IsUnchangedAtErr A.row A.Allocator self.entry result) }
     {
-        let InstructionSink { bytes } = self;
+        let InstructionSink { bytes, .. } = self;
         let op = Opcode::without_prefix(number);
         append_list_call(bytes, op, Before::Block(block_type), clauses, None)?;
-        Ok(InstructionSink { bytes })
+        Ok(InstructionSink { bytes, calls: 0 })
     }
 
     /// Appends an instruction with an index and handlers.
@@ -82,10 +82,10 @@ impl<'a, A: Allocator> InstructionSink<'a, A> {
         ensures emits { EmitsItems I.next_gives self.entry (without_prefix number) (λ xs. operands.Resume index xs) handlers (size (I.remaining handlers)) result }
         ensures* unchanged { sem 𝓛 (IsUnchangedAtErr A.row A.Allocator self.entry result) }
     {
-        let InstructionSink { bytes } = self;
+        let InstructionSink { bytes, .. } = self;
         let op = Opcode::without_prefix(number);
         append_list_call(bytes, op, Before::Index(index), handlers, None)?;
-        Ok(InstructionSink { bytes })
+        Ok(InstructionSink { bytes, calls: 0 })
     }
 
     /// Appends an instruction with two indexes, `first` before `second`, and handlers.
@@ -101,9 +101,9 @@ impl<'a, A: Allocator> InstructionSink<'a, A> {
         ensures emits { EmitsItems I.next_gives self.entry (without_prefix number) (λ xs. operands.ResumeThrow first second xs) handlers (size (I.remaining handlers)) result }
         ensures* unchanged { sem 𝓛 (IsUnchangedAtErr A.row A.Allocator self.entry result) }
     {
-        let InstructionSink { bytes } = self;
+        let InstructionSink { bytes, .. } = self;
         let op = Opcode::without_prefix(number);
         append_list_call(bytes, op, Before::TwoIndexes(first, second), handlers, None)?;
-        Ok(InstructionSink { bytes })
+        Ok(InstructionSink { bytes, calls: 0 })
     }
 }

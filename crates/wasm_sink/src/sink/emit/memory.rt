@@ -8,9 +8,9 @@ ghost use Rattle.wasm_instructions.specs.formats.Opcodes.{after_fd};
 ghost use Rattle.wasm_instructions.specs.declared.table.call.Operands.TheVariants as operands;
 
 use crate::sink::InstructionSink;
+use crate::sink::emit::append_opcode;
 use std::alloc::Allocator;
 use wasm_codec::encode::EncodeError;
-use wasm_instructions::appenders::append_opcode;
 use wasm_instructions::encode::put_mem_arg;
 use wasm_instructions::operands::{Lane, MemArg};
 use wasm_instructions::table::{Opcode, Prefix};
@@ -29,13 +29,13 @@ impl<'a, A: Allocator> InstructionSink<'a, A> {
         ensures emits { EmitsAligned self.entry (opcode_of prefix number) (operands.Mem memarg) memarg.align result }
         ensures* unchanged { sem 𝓛 (IsUnchangedAtErr A.row A.Allocator self.entry result) }
     {
-        let InstructionSink { bytes } = self;
+        let InstructionSink { bytes, calls } = self;
         if memarg.align >= 64 {
             return Err(EncodeError::Alignment);
         }
-        append_opcode(bytes, Opcode { prefix, number })?;
+        let calls = append_opcode(bytes, calls, Opcode { prefix, number })?;
         put_mem_arg(bytes, memarg);
-        Ok(InstructionSink { bytes })
+        Ok(InstructionSink { bytes, calls })
     }
 
     /// Appends an instruction after `0xFD`, with a memory argument and a lane index.
@@ -50,13 +50,13 @@ impl<'a, A: Allocator> InstructionSink<'a, A> {
         ensures emits { EmitsAligned self.entry (after_fd number) (operands.MemLane memarg lane) memarg.align result }
         ensures* unchanged { sem 𝓛 (IsUnchangedAtErr A.row A.Allocator self.entry result) }
     {
-        let InstructionSink { bytes } = self;
+        let InstructionSink { bytes, calls } = self;
         if memarg.align >= 64 {
             return Err(EncodeError::Alignment);
         }
-        append_opcode(bytes, Opcode::after_fd(number))?;
+        let calls = append_opcode(bytes, calls, Opcode::after_fd(number))?;
         put_mem_arg(bytes, memarg);
         bytes.push_reserved(lane);
-        Ok(InstructionSink { bytes })
+        Ok(InstructionSink { bytes, calls })
     }
 }

@@ -6,10 +6,10 @@ ghost use Rattle.wasm_instructions.specs.formats.Opcodes.{after_fe};
 ghost use Rattle.wasm_instructions.specs.declared.table.call.Operands.TheVariants as operands;
 
 use crate::sink::InstructionSink;
+use crate::sink::emit::append_opcode;
 use std::alloc::Allocator;
 use wasm_codec::encode::EncodeError;
 use wasm_codec::encode::leb128::put_u32;
-use wasm_instructions::appenders::append_opcode;
 use wasm_instructions::encode::put_ordering;
 use wasm_instructions::operands::Ordering;
 use wasm_instructions::table::Opcode;
@@ -27,10 +27,10 @@ impl<'a, A: Allocator> InstructionSink<'a, A> {
         ensures emits { Emits self.entry (after_fe number) (operands.Order ordering) result }
         ensures* unchanged { sem 𝓛 (IsUnchangedAtErr A.row A.Allocator self.entry result) }
     {
-        let InstructionSink { bytes } = self;
-        append_opcode(bytes, Opcode::after_fe(number))?;
+        let InstructionSink { bytes, calls } = self;
+        let calls = append_opcode(bytes, calls, Opcode::after_fe(number))?;
         put_ordering(bytes, ordering);
-        Ok(InstructionSink { bytes })
+        Ok(InstructionSink { bytes, calls })
     }
 
     /// Appends an instruction after `0xFE`, with an ordering and an index.
@@ -45,11 +45,11 @@ impl<'a, A: Allocator> InstructionSink<'a, A> {
         ensures emits { Emits self.entry (after_fe number) (operands.OrderIndex ordering index) result }
         ensures* unchanged { sem 𝓛 (IsUnchangedAtErr A.row A.Allocator self.entry result) }
     {
-        let InstructionSink { bytes } = self;
-        append_opcode(bytes, Opcode::after_fe(number))?;
+        let InstructionSink { bytes, calls } = self;
+        let calls = append_opcode(bytes, calls, Opcode::after_fe(number))?;
         put_ordering(bytes, ordering);
         put_u32(bytes, index);
-        Ok(InstructionSink { bytes })
+        Ok(InstructionSink { bytes, calls })
     }
 
     /// Appends an instruction after `0xFE`, with an ordering and two indexes, `first` before `second`.
@@ -65,11 +65,11 @@ impl<'a, A: Allocator> InstructionSink<'a, A> {
         ensures emits { Emits self.entry (after_fe number) (operands.OrderTwoIndexes ordering first second) result }
         ensures* unchanged { sem 𝓛 (IsUnchangedAtErr A.row A.Allocator self.entry result) }
     {
-        let InstructionSink { bytes } = self;
-        append_opcode(bytes, Opcode::after_fe(number))?;
+        let InstructionSink { bytes, calls } = self;
+        let calls = append_opcode(bytes, calls, Opcode::after_fe(number))?;
         put_ordering(bytes, ordering);
         put_u32(bytes, first);
         put_u32(bytes, second);
-        Ok(InstructionSink { bytes })
+        Ok(InstructionSink { bytes, calls })
     }
 }

@@ -5,4 +5,4 @@ use Rattle.wasm_sink.proofs.sink.InstructionSink.emit_block.Goals as goal
 
 pub returns : goal.returns
 unfolding operands_format
-returns g c = (search (rules), record { emits = emitted _ _ _ _ _ _ c.requires.call c.without_prefix.ensures c.in_ok-append_opcode.ensures.ok c.put_block_type.ensures.items refl (search (rules)) tt tt tt; unchanged = tt })
+returns g c = (search (rules), record { emits = emitted _ _ _ _ _ _ c.requires.call c.without_prefix.ensures c.in_ok-calls.ensures.ok c.put_block_type.ensures.items refl (search (rules)) tt tt tt (search (rules)); unchanged = tt })

@@ -6,4 +6,4 @@ use Rattle.wasm_sink.proofs.sink.InstructionSink.emit_cast.Goals as goal
 
 pub returns : goal.returns
 unfolding operands_format
-returns g c = (search (rules), record { emits = emitted _ _ _ _ _ _ c.requires.call c.after_fb.ensures c.in_ok-append_opcode.ensures.ok (grind (arith, common_steps)) refl (search (rules)) tt tt tt; unchanged = tt })
+returns g c = (search (rules), record { emits = emitted _ _ _ _ _ _ c.requires.call c.after_fb.ensures c.in_ok-calls.ensures.ok (grind (arith, common_steps)) refl (search (rules)) tt tt tt (search (rules)); unchanged = tt })

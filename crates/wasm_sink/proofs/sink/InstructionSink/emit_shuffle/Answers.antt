@@ -5,4 +5,4 @@ use Rattle.wasm_sink.proofs.sink.InstructionSink.emit_shuffle.Goals as goal
 
 pub returns : goal.returns
 unfolding operands_format
-returns g c = (search (rules), record { emits = emitted _ _ _ _ _ _ c.requires.call c.after_fd.ensures c.in_ok-append_opcode.ensures.ok c.put_lanes.ensures.items refl (search (rules)) tt tt tt; unchanged = tt })
+returns g c = (search (rules), record { emits = emitted _ _ _ _ _ _ c.requires.call c.after_fd.ensures c.in_ok-calls.ensures.ok c.put_lanes.ensures.items refl (search (rules)) tt tt tt (search (rules)); unchanged = tt })
