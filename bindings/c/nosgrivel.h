@@ -192,8 +192,8 @@ enum nosgrivel_construct {
     NOSGRIVEL_CONSTRUCT_VAL_TYPE = 11,      /* a value type */
     NOSGRIVEL_CONSTRUCT_HEAP_TYPE = 12,     /* a heap type */
     NOSGRIVEL_CONSTRUCT_REF_TYPE = 13,      /* a reference type */
-    NOSGRIVEL_CONSTRUCT_TYPE_FORM = 14,     /* a composite, sub or recursive type */
-    NOSGRIVEL_CONSTRUCT_MUTABILITY = 15,    /* whether a field or a global is mutable */
+    NOSGRIVEL_CONSTRUCT_TYPE_FORM = 14,     /* the first byte of a recursive, sub or composite type */
+    NOSGRIVEL_CONSTRUCT_MUTABILITY = 15,    /* whether a field is mutable */
     NOSGRIVEL_CONSTRUCT_LIMITS = 16,        /* the flags of limits */
     NOSGRIVEL_CONSTRUCT_MEMORY_FLAGS = 17,  /* the flags of a memory type */
     NOSGRIVEL_CONSTRUCT_TABLE = 18,         /* a table */
@@ -210,9 +210,16 @@ enum nosgrivel_construct {
     NOSGRIVEL_CONSTRUCT_DATA_FORM = 29,     /* the form of a data segment */
     NOSGRIVEL_CONSTRUCT_SECTION_ID = 30,    /* the id of a section */
     NOSGRIVEL_CONSTRUCT_SUBSECTION_ID = 31, /* the id of a subsection */
-    NOSGRIVEL_CONSTRUCT_FIELD = 32,         /* a field of a known custom section */
+    NOSGRIVEL_CONSTRUCT_RESERVED = 32,      /* a byte that is 0 */
     NOSGRIVEL_CONSTRUCT_ABSTRACT_HEAP_TYPE = 33, /* an abstract heap type, after the byte of a shared one */
-    NOSGRIVEL_CONSTRUCT_HANDLER_CLAUSE = 34      /* a clause of `resume`, which handles a tag */
+    NOSGRIVEL_CONSTRUCT_HANDLER_CLAUSE = 34,     /* a clause of `resume`, which handles a tag */
+    NOSGRIVEL_CONSTRUCT_COMPOSITE_TYPE = 35, /* the byte of a function, structure, array or continuation type */
+    NOSGRIVEL_CONSTRUCT_GLOBAL_MUTABILITY = 36, /* whether a global is mutable, and whether it is shared */
+    NOSGRIVEL_CONSTRUCT_BRANCH_HINT = 37, /* the byte of a branch hint */
+    NOSGRIVEL_CONSTRUCT_FEATURE_PREFIX = 38, /* the prefix of a target feature */
+    NOSGRIVEL_CONSTRUCT_LINKING_VERSION = 39, /* the version of a `linking` section */
+    NOSGRIVEL_CONSTRUCT_SYMBOL_KIND = 40, /* the kind of a symbol */
+    NOSGRIVEL_CONSTRUCT_CORE_DUMP_VALUE = 41  /* the first byte of a value in a core dump */
 };
 
 /* Why and where a module is refused. Offsets are counted in bytes from the start of the input. */

@@ -51,8 +51,8 @@ static const struct row rows[] = {
      "function section, function 0, offset 0xb: LEB128 number out of range of u32"},
     /* the second type, at 14, begins with the code of i32 */
     {MODULE(0x01, 0x05, 0x02, 0x60, 0x00, 0x00, 0x7F), false,
-     REFUSED(0, 1, 8, 14, 1, -1, -1, INVALID_BYTE, TYPE_FORM, 0x7F, 0),
-     "type section, type 1, offset 0xe: invalid type form 0x7f"},
+     REFUSED(0, 1, 8, 14, 1, -1, -1, INVALID_BYTE, COMPOSITE_TYPE, 0x7F, 0),
+     "type section, type 1, offset 0xe: invalid composite type 0x7f"},
     /* the parameter at 13 has an unknown type; the section is the second one, after a custom section of 3 bytes */
     {MODULE(0x00, 0x01, 0x00, 0x01, 0x04, 0x01, 0x60, 0x01, 0x40), false,
      REFUSED(1, 1, 11, 16, 0, -1, -1, INVALID_BYTE, VAL_TYPE, 0x40, 0),

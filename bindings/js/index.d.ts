@@ -73,9 +73,9 @@ export type Construct =
     | 'heap-type'
     /** A reference type. */
     | 'ref-type'
-    /** A composite, sub or recursive type. */
+    /** The first byte of a recursive type, a sub type or a composite type. */
     | 'type-form'
-    /** Whether a field or a global is mutable. */
+    /** Whether a field is mutable. */
     | 'mutability'
     /** The flags of limits. */
     | 'limits'
@@ -109,12 +109,26 @@ export type Construct =
     | 'section-id'
     /** The id of a subsection. */
     | 'subsection-id'
-    /** A field of a known custom section. */
-    | 'field'
+    /** A byte that is 0. */
+    | 'reserved'
     /** An abstract heap type, after the byte of a shared one. */
     | 'abstract-heap-type'
     /** A clause of `resume`, which handles a tag. */
-    | 'handler-clause';
+    | 'handler-clause'
+    /** The byte of a function, structure, array or continuation type. */
+    | 'composite-type'
+    /** Whether a global is mutable, and whether it is shared. */
+    | 'global-mutability'
+    /** The byte of a branch hint. */
+    | 'branch-hint'
+    /** The prefix of a target feature. */
+    | 'feature-prefix'
+    /** The version of a `linking` section. */
+    | 'linking-version'
+    /** The kind of a symbol. */
+    | 'symbol-kind'
+    /** The first byte of a value in a core dump. */
+    | 'core-dump-value';
 
 /** The place of a section. */
 export interface SectionPlace {

@@ -21,7 +21,9 @@ const CONSTRUCTS = [
     null, 'byte', 'number', 'u32', 'u64', 's32', 's64', 'type-index', 'constant', 'body', 'name', 'val-type',
     'heap-type', 'ref-type', 'type-form', 'mutability', 'limits', 'memory-flags', 'table', 'tag-attribute',
     'import-kind', 'export-kind', 'opcode', 'block-type', 'clause', 'ordering', 'cast-flags', 'element-form',
-    'element-kind', 'data-form', 'section-id', 'subsection-id', 'field', 'abstract-heap-type', 'handler-clause',
+    'element-kind', 'data-form', 'section-id', 'subsection-id', 'reserved', 'abstract-heap-type', 'handler-clause',
+    'composite-type', 'global-mutability', 'branch-hint', 'feature-prefix', 'linking-version', 'symbol-kind',
+    'core-dump-value',
 ];
 
 /** The names of the sections, in the order of their ids. */

@@ -33,15 +33,15 @@ pub enum Construct {
     HeapType,
     /// A reference type (Core 3.0, Reference Types).
     RefType,
-    /// A composite, sub or recursive type (Core 3.0, Composite Types).
+    /// The first byte of a recursive type, a sub type or a composite type (Core 3.0, Recursive Types).
     TypeForm,
-    /// Whether a field or a global is mutable.
+    /// Whether a field is mutable.
     Mutability,
     /// The flags of limits (Core 3.0, Limits).
     Limits,
     /// The flags of a memory type.
     MemoryFlags,
-    /// A table: its type, or its form with an initial value.
+    /// A table.
     Table,
     /// The attribute of a tag type.
     TagAttribute,
@@ -69,17 +69,31 @@ pub enum Construct {
     SectionId,
     /// The id of a subsection.
     SubsectionId,
-    /// A field of a known custom section, such as a branch hint or a feature's prefix.
-    Field,
+    /// A byte that is 0.
+    Reserved,
     /// An abstract heap type, after the byte of a shared one.
     AbstractHeapType,
     /// A clause of `resume`, which handles a tag.
     HandlerClause,
+    /// The byte of a function, structure, array or continuation type.
+    CompositeType,
+    /// Whether a global is mutable, and whether it is shared.
+    GlobalMutability,
+    /// The byte of a branch hint.
+    BranchHint,
+    /// The prefix of a target feature.
+    FeaturePrefix,
+    /// The version of a `linking` section.
+    LinkingVersion,
+    /// The kind of a symbol.
+    SymbolKind,
+    /// The first byte of a value in a core dump.
+    CoreDumpValue,
 }
 
 impl Construct {
     /// All parts, in the order of their codes from 1 on.
-    const ALL: [Construct; 34] = [
+    const ALL: [Construct; 41] = [
         Construct::Byte,
         Construct::Number,
         Construct::U32,
@@ -111,9 +125,16 @@ impl Construct {
         Construct::DataForm,
         Construct::SectionId,
         Construct::SubsectionId,
-        Construct::Field,
+        Construct::Reserved,
         Construct::AbstractHeapType,
         Construct::HandlerClause,
+        Construct::CompositeType,
+        Construct::GlobalMutability,
+        Construct::BranchHint,
+        Construct::FeaturePrefix,
+        Construct::LinkingVersion,
+        Construct::SymbolKind,
+        Construct::CoreDumpValue,
     ];
 
     fn of(code: u32) -> Construct {

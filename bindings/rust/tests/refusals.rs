@@ -68,12 +68,12 @@ fn numbers() {
 
 #[test]
 fn bytes() {
-    let (construct, byte) = (Construct::TypeForm, 0x7F);
+    let (construct, byte) = (Construct::CompositeType, 0x7F);
     let wanted = in_item(1, 1, 14, Reason::InvalidByte { construct, byte });
     expect(
         &[1, 5, 2, 0x60, 0, 0, 0x7F],
         wanted,
-        "type section, type 1, offset 0xe: invalid type form 0x7f",
+        "type section, type 1, offset 0xe: invalid composite type 0x7f",
     );
     // Two empty names at 11 and 12, and the kind at 13.
     let (construct, byte) = (Construct::ImportKind, 5);
@@ -216,9 +216,11 @@ fn parts() {
         Construct::TagAttribute,
         Construct::Opcode,
         Construct::CastFlags,
-        Construct::Field,
+        Construct::Reserved,
         Construct::AbstractHeapType,
         Construct::HandlerClause,
+        Construct::CompositeType,
+        Construct::CoreDumpValue,
     ]
     .into_iter()
     .map(|construct| {
@@ -226,8 +228,8 @@ fn parts() {
         Refusal { reason, ..told }.to_string()
     })
     .collect();
-    assert_eq!(texts.len(), 10);
-    assert!(texts.contains("offset 0x0: invalid field 0x01"));
+    assert_eq!(texts.len(), 12);
+    assert!(texts.contains("offset 0x0: invalid reserved byte 0x01"));
     assert!(texts.contains("offset 0x0: invalid heap type 0x01"));
 }
 

@@ -42,9 +42,16 @@ construct_code constructs.ElementKind = 28
 construct_code constructs.DataForm = 29
 construct_code constructs.SectionId = 30
 construct_code constructs.SubsectionId = 31
-construct_code constructs.Field = 32
+construct_code constructs.Reserved = 32
 construct_code constructs.AbstractHeapType = 33
 construct_code constructs.HandlerClause = 34
+construct_code constructs.CompositeType = 35
+construct_code constructs.GlobalMutability = 36
+construct_code constructs.BranchHint = 37
+construct_code constructs.FeaturePrefix = 38
+construct_code constructs.LinkingVersion = 39
+construct_code constructs.SymbolKind = 40
+construct_code constructs.CoreDumpValue = 41
 
 -- A reason that names a part and a number.
 abbrev pub naming : ℕ → Construct → ℕ → FlatReason

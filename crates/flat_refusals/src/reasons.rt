@@ -272,9 +272,16 @@ fn construct_code(construct: Construct) -> u32
         Construct::DataForm => 29,
         Construct::SectionId => 30,
         Construct::SubsectionId => 31,
-        Construct::Field => 32,
+        Construct::Reserved => 32,
         Construct::AbstractHeapType => 33,
         Construct::HandlerClause => 34,
+        Construct::CompositeType => 35,
+        Construct::GlobalMutability => 36,
+        Construct::BranchHint => 37,
+        Construct::FeaturePrefix => 38,
+        Construct::LinkingVersion => 39,
+        Construct::SymbolKind => 40,
+        Construct::CoreDumpValue => 41,
     }
 }
 
@@ -315,9 +322,16 @@ fn construct_of(code: u32) -> Option<Construct>
         29 => Construct::DataForm,
         30 => Construct::SectionId,
         31 => Construct::SubsectionId,
-        32 => Construct::Field,
+        32 => Construct::Reserved,
         33 => Construct::AbstractHeapType,
         34 => Construct::HandlerClause,
+        35 => Construct::CompositeType,
+        36 => Construct::GlobalMutability,
+        37 => Construct::BranchHint,
+        38 => Construct::FeaturePrefix,
+        39 => Construct::LinkingVersion,
+        40 => Construct::SymbolKind,
+        41 => Construct::CoreDumpValue,
         _ => return None,
     })
 }

@@ -35,6 +35,10 @@ ends_within zero bytes = false
 ends_within (suc most) [] = false
 ends_within (suc most) (b ∷ bytes) = nat_lt b 128 || ends_within most bytes
 
+-- A number of 32 or 33 bits has at most 5 bytes, one of 64 bits at most 10.
+abbrev pub is_longest_number : ℕ → Bool
+is_longest_number most = most == 5 || most == 10
+
 -- The bytes begin with a number, and it isn't one of these.
 pub record IsOutOfRange {V : Type 0} (most : ℕ) (read : Place → Option (V × Place)) (bytes : List ℕ) : Type 0 where
   pub ends : ends_within most bytes ≡ true
@@ -67,17 +71,20 @@ pub record HasTooLargeSize (size left : ℕ) (end : Option ℕ) (bytes all : Lis
 abbrev pub from_to : ℕ → ℕ → ℕ → Bool
 from_to first last n = nat_le first n && nat_le n last
 
--- A part of this kind may begin with this byte. For fields of known custom sections nothing is said.
+-- A part of this kind may begin with this byte.
 abbrev pub begins_with : Construct → ℕ → Bool
 begins_with parts.AbstractHeapType b = from_to 0x68 0x75 b
 begins_with parts.HeapType b = from_to 0x00 0x3f b || from_to 0x80 0xff b || b == 0x62 || b == 0x65 || from_to 0x68 0x75 b
 begins_with parts.RefType b = from_to 0x63 0x65 b || from_to 0x68 0x75 b
 begins_with parts.ValType b = from_to 0x63 0x65 b || from_to 0x68 0x75 b || from_to 0x7b 0x7f b
-begins_with parts.TypeForm b = from_to 0x5d 0x60 b
+begins_with parts.TypeForm b = from_to 0x4c 0x50 b || from_to 0x5d 0x60 b || b == 0x65
+begins_with parts.CompositeType b = from_to 0x5d 0x60 b
 begins_with parts.Mutability b = from_to 0x00 0x01 b
+begins_with parts.GlobalMutability b = from_to 0x00 0x03 b
 begins_with parts.Limits b = from_to 0x00 0x07 b
 begins_with parts.MemoryFlags b = from_to 0x00 0x0f b
-begins_with parts.Table b = b == 0x00
+begins_with parts.Table b = b == 0x40 || from_to 0x63 0x65 b || from_to 0x68 0x75 b
+begins_with parts.Reserved b = b == 0x00
 begins_with parts.TagAttribute b = b == 0x00
 begins_with parts.ImportKind b = from_to 0x00 0x04 b || b == 0x20
 begins_with parts.ExportKind b = from_to 0x00 0x04 b
@@ -86,14 +93,17 @@ begins_with parts.HandlerClause b = from_to 0x00 0x01 b
 begins_with parts.Ordering b = from_to 0x00 0x01 b
 begins_with parts.CastFlags b = from_to 0x00 0x03 b
 begins_with parts.ElementKind b = b == 0x00
-begins_with parts.Field b = false
+begins_with parts.BranchHint b = from_to 0x00 0x01 b
+begins_with parts.FeaturePrefix b = b == 0x2b || b == 0x2d
+begins_with parts.SymbolKind b = from_to 0x00 0x05 b
+begins_with parts.CoreDumpValue b = b == 0x01 || from_to 0x7c 0x7f b
 begins_with part b = true
 
--- This number stands for a part of this kind. For fields of known custom sections nothing is said.
+-- This number stands for a part of this kind.
 abbrev pub stands_for : Construct → ℕ → Bool
 stands_for parts.ElementForm n = from_to 0 7 n
 stands_for parts.DataForm n = from_to 0 2 n
-stands_for parts.Field n = false
+stands_for parts.LinkingVersion n = n == 2
 stands_for part n = true
 
 -- ---- opcodes
@@ -175,7 +185,7 @@ pub record LiesInBody (body : Option ℕ) (offset count : ℕ) (bytes : List ℕ
 
 -- The reason is true of the bytes at its offset, which it is about.
 abbrev pub HoldsAt : Reason → List ℕ → Type 0
-HoldsAt (reasons.NumberTooLong most) bytes = (most ≤ length bytes) × (ends_within most bytes ≡ false)
+HoldsAt (reasons.NumberTooLong most) bytes = (is_longest_number most ≡ true) × (most ≤ length bytes) × (ends_within most bytes ≡ false)
 HoldsAt (reasons.NumberOutOfRange part) bytes = IsOutOfRangeOf part bytes
 HoldsAt (reasons.InvalidByte part b) bytes = (head_of bytes ≡ Some b) × (begins_with part b ≡ false)
 HoldsAt (reasons.InvalidNumber part n) bytes = BeginsWithU32 n bytes × (stands_for part n ≡ false)

@@ -154,7 +154,9 @@ fn holds_at(reason: Reason, bytes: &[u8]) -> bool
 {
     match reason {
         Reason::NumberTooLong { most } => {
-            usize::from(most) <= bytes.len() && !ends_within(u32::from(most), bytes)
+            (most == 5 || most == 10)
+                && usize::from(most) <= bytes.len()
+                && !ends_within(u32::from(most), bytes)
         }
         Reason::NumberOutOfRange { construct } => is_out_of_range(construct, bytes),
         Reason::InvalidByte { construct, byte } => {
@@ -324,15 +326,24 @@ fn begins_with(construct: Construct, byte: u8) -> bool
                 || (0x68..=0x75).contains(&byte)
                 || (0x7b..=0x7f).contains(&byte)
         }
-        Construct::TypeForm => (0x5d..=0x60).contains(&byte),
+        Construct::TypeForm => {
+            (0x4c..=0x50).contains(&byte) || (0x5d..=0x60).contains(&byte) || byte == 0x65
+        }
+        Construct::CompositeType => (0x5d..=0x60).contains(&byte),
+        Construct::Table => {
+            byte == 0x40 || (0x63..=0x65).contains(&byte) || (0x68..=0x75).contains(&byte)
+        }
+        Construct::Reserved | Construct::TagAttribute | Construct::ElementKind => byte == 0,
         Construct::Mutability | Construct::HandlerClause | Construct::Ordering => byte <= 1,
-        Construct::Clause | Construct::CastFlags => byte <= 3,
+        Construct::BranchHint => byte <= 1,
+        Construct::GlobalMutability | Construct::Clause | Construct::CastFlags => byte <= 3,
+        Construct::ExportKind => byte <= 4,
+        Construct::ImportKind => byte <= 4 || byte == 0x20,
+        Construct::SymbolKind => byte <= 5,
         Construct::Limits => byte <= 7,
         Construct::MemoryFlags => byte <= 15,
-        Construct::Table | Construct::TagAttribute | Construct::ElementKind => byte == 0,
-        Construct::ImportKind => byte <= 4 || byte == 0x20,
-        Construct::ExportKind => byte <= 4,
-        Construct::Field => false,
+        Construct::FeaturePrefix => byte == b'+' || byte == b'-',
+        Construct::CoreDumpValue => byte == 1 || (0x7c..=0x7f).contains(&byte),
         _ => true,
     }
 }
@@ -344,7 +355,7 @@ fn stands_for(construct: Construct, number: u32) -> bool
     match construct {
         Construct::ElementForm => number <= 7,
         Construct::DataForm => number <= 2,
-        Construct::Field => false,
+        Construct::LinkingVersion => number == 2,
         _ => true,
     }
 }

@@ -47,10 +47,10 @@ fn read_value(cursor: &mut Cursor<'_>) -> Result<bool, Fault>
     ensures reads { Reads hint_value.at cursor.old cursor.new result }
     ensures err { IfErr result IsMalformed }
 {
-    match cursor.byte_of(Construct::Field)? {
+    match cursor.byte_of(Construct::BranchHint)? {
         0x00 => Ok(false),
         0x01 => Ok(true),
-        byte => Err(Fault::Malformed(cursor.invalid(Construct::Field, byte))),
+        byte => Err(Fault::Malformed(cursor.invalid(Construct::BranchHint, byte))),
     }
 }
 
@@ -81,10 +81,10 @@ impl RewritableBody for HintValue {
 
     #[tactic(auto, unfolding(crate::specs::formats::BranchHints::hint_value))]
     fn rewrite(rewriter: &mut Rewriter) -> Result<(), Fault> {
-        match rewriter.byte_of(Construct::Field)? {
+        match rewriter.byte_of(Construct::BranchHint)? {
             0x00 => Ok(()),
             0x01 => Ok(()),
-            byte => Err(Fault::Malformed(rewriter.invalid(Construct::Field, byte))),
+            byte => Err(Fault::Malformed(rewriter.invalid(Construct::BranchHint, byte))),
         }
     }
 }

@@ -115,9 +115,9 @@ fn take_module<'a, I: NameInput<'a>>(input: &mut I) -> Result<CoreDumpModule<'a>
     ensures passes { Passes I.writes module_name core_name (I.state input.old) (I.state input.new) result }
     ensures err { IfErr result IsMalformed }
 {
-    let byte = input.byte_of(Construct::Field)?;
+    let byte = input.byte_of(Construct::Reserved)?;
     if byte != 0x00 {
-        return Err(Fault::Malformed(input.invalid(Construct::Field, byte)));
+        return Err(Fault::Malformed(input.invalid(Construct::Reserved, byte)));
     }
     let name = input.name()?;
     Ok(CoreDumpModule { name })
@@ -170,9 +170,9 @@ impl<'a> Readable<'a> for CoreDumpInstance {
 
     #[tactic(auto, unfolding(crate::specs::formats::CoreDumps::core_instance))]
     fn read(alloc: Global, cursor: &mut Cursor<'a>) -> Result<CoreDumpInstance, Fault> {
-        let byte = cursor.byte_of(Construct::Field)?;
+        let byte = cursor.byte_of(Construct::Reserved)?;
         if byte != 0x00 {
-            return Err(Fault::Malformed(cursor.invalid(Construct::Field, byte)));
+            return Err(Fault::Malformed(cursor.invalid(Construct::Reserved, byte)));
         }
         let module_index = cursor.u32()?;
         let memories = read_list(alloc, cursor)?;
@@ -188,9 +188,9 @@ impl<'a> Readable<'a> for CoreDumpInstance {
     fn rewrite(rewriter: &mut Rewriter) -> Result<(), Fault>
         ensures rewrites { Rewrites core_instance rewriter.old rewriter.new result }
     {
-        let byte = rewriter.byte_of(Construct::Field)?;
+        let byte = rewriter.byte_of(Construct::Reserved)?;
         if byte != 0x00 {
-            return Err(Fault::Malformed(rewriter.invalid(Construct::Field, byte)));
+            return Err(Fault::Malformed(rewriter.invalid(Construct::Reserved, byte)));
         }
         rewriter.u32()?;
         rewrite_list::<u32>(rewriter)?;

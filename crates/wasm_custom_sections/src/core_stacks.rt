@@ -78,9 +78,9 @@ impl<'a> Readable<'a> for CoreDumpStackFrame {
 
     #[tactic(auto, unfolding(crate::specs::formats::CoreStacks::core_frame))]
     fn read(alloc: Global, cursor: &mut Cursor<'a>) -> Result<CoreDumpStackFrame, Fault> {
-        let byte = cursor.byte_of(Construct::Field)?;
+        let byte = cursor.byte_of(Construct::Reserved)?;
         if byte != 0x00 {
-            return Err(Fault::Malformed(cursor.invalid(Construct::Field, byte)));
+            return Err(Fault::Malformed(cursor.invalid(Construct::Reserved, byte)));
         }
         let instance_index = cursor.u32()?;
         let function_index = cursor.u32()?;
@@ -100,9 +100,9 @@ impl<'a> Readable<'a> for CoreDumpStackFrame {
     fn rewrite(rewriter: &mut Rewriter) -> Result<(), Fault>
         ensures rewrites { Rewrites core_frame rewriter.old rewriter.new result }
     {
-        let byte = rewriter.byte_of(Construct::Field)?;
+        let byte = rewriter.byte_of(Construct::Reserved)?;
         if byte != 0x00 {
-            return Err(Fault::Malformed(rewriter.invalid(Construct::Field, byte)));
+            return Err(Fault::Malformed(rewriter.invalid(Construct::Reserved, byte)));
         }
         rewriter.u32()?;
         rewriter.u32()?;
@@ -132,9 +132,9 @@ impl<'a> Readable<'a> for CoreDumpStack<'a> {
 
     #[tactic(auto, unfolding(crate::specs::formats::CoreStacks::core_stack))]
     fn read(alloc: Global, cursor: &mut Cursor<'a>) -> Result<CoreDumpStack<'a>, Fault> {
-        let byte = cursor.byte_of(Construct::Field)?;
+        let byte = cursor.byte_of(Construct::Reserved)?;
         if byte != 0x00 {
-            return Err(Fault::Malformed(cursor.invalid(Construct::Field, byte)));
+            return Err(Fault::Malformed(cursor.invalid(Construct::Reserved, byte)));
         }
         let name = read_name(cursor)?;
         let frames = read_list(alloc, cursor)?;
@@ -145,9 +145,9 @@ impl<'a> Readable<'a> for CoreDumpStack<'a> {
     fn rewrite(rewriter: &mut Rewriter) -> Result<(), Fault>
         ensures rewrites { Rewrites core_stack rewriter.old rewriter.new result }
     {
-        let byte = rewriter.byte_of(Construct::Field)?;
+        let byte = rewriter.byte_of(Construct::Reserved)?;
         if byte != 0x00 {
-            return Err(Fault::Malformed(rewriter.invalid(Construct::Field, byte)));
+            return Err(Fault::Malformed(rewriter.invalid(Construct::Reserved, byte)));
         }
         rewrite_name(rewriter)?;
         rewrite_list::<Item<'static, CoreDumpStackFrame>>(rewriter)

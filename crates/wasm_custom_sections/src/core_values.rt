@@ -122,13 +122,13 @@ fn take_value<I: ConstantInput>(input: &mut I) -> Result<CoreDumpValue, Fault>
     ensures passes { Passes I.writes (λ x. x) core_value (I.state input.old) (I.state input.new) result }
     ensures err { IfErr result IsMalformed }
 {
-    match input.byte_of(Construct::Field)? {
+    match input.byte_of(Construct::CoreDumpValue)? {
         0x01 => Ok(CoreDumpValue::Missing),
         0x7F => Ok(CoreDumpValue::I32(input.s32()?)),
         0x7E => Ok(CoreDumpValue::I64(input.s64()?)),
         0x7D => Ok(CoreDumpValue::F32(Ieee32::new(input.bits_32()?))),
         0x7C => Ok(CoreDumpValue::F64(Ieee64::new(input.bits_64()?))),
-        byte => Err(Fault::Malformed(input.invalid(Construct::Field, byte))),
+        byte => Err(Fault::Malformed(input.invalid(Construct::CoreDumpValue, byte))),
     }
 }
 

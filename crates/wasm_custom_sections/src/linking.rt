@@ -153,7 +153,7 @@ fn read_version<const STRICT: bool>(cursor: &mut Cursor<'_>) -> Result<u32, Faul
     let start = cursor.to_end();
     let number = cursor.u32()?;
     if number != VERSION {
-        let construct = Construct::Field;
+        let construct = Construct::LinkingVersion;
         let reason = Reason::InvalidNumber { construct, number };
         return Err(Fault::Malformed(Malformed::new(reason, start)));
     }
@@ -231,7 +231,7 @@ fn rewrite_version(rewriter: &mut Rewriter) -> Result<(), Fault>
     let start = rewriter.to_end();
     let number = rewriter.u32()?;
     if number != VERSION {
-        let construct = Construct::Field;
+        let construct = Construct::LinkingVersion;
         let reason = Reason::InvalidNumber { construct, number };
         return Err(Fault::Malformed(Malformed::new(reason, start)));
     }

@@ -178,14 +178,14 @@ fn take_symbol<'a, I: NameInput<'a>>(input: &mut I) -> Result<Symbol<'a>, Fault>
     ensures passes { Passes I.writes symbol_parts symbol (I.state input.old) (I.state input.new) result }
     ensures err { IfErr result IsMalformed }
 {
-    match input.byte_of(Construct::Field)? {
+    match input.byte_of(Construct::SymbolKind)? {
         0 => Ok(Symbol::Function(take_item_symbol(input)?)),
         1 => Ok(Symbol::Data(take_data_symbol(input)?)),
         2 => Ok(Symbol::Global(take_item_symbol(input)?)),
         3 => Ok(Symbol::Section(take_section_symbol(input)?)),
         4 => Ok(Symbol::Tag(take_item_symbol(input)?)),
         5 => Ok(Symbol::Table(take_item_symbol(input)?)),
-        kind => Err(Fault::Malformed(input.invalid(Construct::Field, kind))),
+        kind => Err(Fault::Malformed(input.invalid(Construct::SymbolKind, kind))),
     }
 }
 

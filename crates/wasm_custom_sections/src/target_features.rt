@@ -45,10 +45,10 @@ pub struct TargetFeature<'a> {
 fn take_prefix<I: Input>(input: &mut I) -> Result<FeaturePrefix, Fault>
     ensures takes { Takes I.writes feature_prefix (I.state input.old) (I.state input.new) result }
 {
-    match input.byte_of(Construct::Field)? {
+    match input.byte_of(Construct::FeaturePrefix)? {
         0x2B => Ok(FeaturePrefix::Used),
         0x2D => Ok(FeaturePrefix::Disallowed),
-        byte => Err(Fault::Malformed(input.invalid(Construct::Field, byte))),
+        byte => Err(Fault::Malformed(input.invalid(Construct::FeaturePrefix, byte))),
     }
 }
 

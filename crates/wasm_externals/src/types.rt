@@ -143,12 +143,12 @@ pub enum ExportKind {
 fn take_global_flags<I: Input>(input: &mut I) -> Result<(bool, bool), Fault>
     ensures takes { Takes I.writes global_flags (I.state input.old) (I.state input.new) result }
 {
-    match input.byte_of(Construct::Mutability)? {
+    match input.byte_of(Construct::GlobalMutability)? {
         0x00 => Ok((false, false)),
         0x01 => Ok((true, false)),
         0x02 => Ok((false, true)),
         0x03 => Ok((true, true)),
-        byte => Err(Fault::Malformed(input.invalid(Construct::Mutability, byte))),
+        byte => Err(Fault::Malformed(input.invalid(Construct::GlobalMutability, byte))),
     }
 }
 

@@ -43,9 +43,9 @@ fn read_table(alloc: Global, cursor: &mut Cursor<'_>) -> Result<Table, Fault>
         return Ok(Table { ty, init: None });
     }
     cursor.byte_of(Construct::Table)?;
-    let byte = cursor.byte_of(Construct::Table)?;
+    let byte = cursor.byte_of(Construct::Reserved)?;
     if byte != 0x00 {
-        return Err(Fault::Malformed(cursor.invalid(Construct::Table, byte)));
+        return Err(Fault::Malformed(cursor.invalid(Construct::Reserved, byte)));
     }
     let ty = take_table_type(cursor)?;
     let init = read_expr(alloc, cursor)?;
@@ -83,9 +83,9 @@ impl<'a> Readable<'a> for Table {
             return Ok(());
         }
         rewriter.byte_of(Construct::Table)?;
-        let byte = rewriter.byte_of(Construct::Table)?;
+        let byte = rewriter.byte_of(Construct::Reserved)?;
         if byte != 0x00 {
-            return Err(Fault::Malformed(rewriter.invalid(Construct::Table, byte)));
+            return Err(Fault::Malformed(rewriter.invalid(Construct::Reserved, byte)));
         }
         take_table_type(rewriter)?;
         rewrite_expr(rewriter)

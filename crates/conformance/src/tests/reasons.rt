@@ -94,7 +94,7 @@ const REASONS: [(Reason, &str); 21] = [
 ];
 
 /// The names of parts of the format.
-const CONSTRUCTS: [(Construct, &str); 34] = [
+const CONSTRUCTS: [(Construct, &str); 41] = [
     (Construct::Byte, "byte"),
     (Construct::Number, "LEB128 number"),
     (Construct::U32, "u32"),
@@ -126,9 +126,16 @@ const CONSTRUCTS: [(Construct, &str); 34] = [
     (Construct::DataForm, "data segment form"),
     (Construct::SectionId, "section id"),
     (Construct::SubsectionId, "subsection id"),
-    (Construct::Field, "field"),
+    (Construct::Reserved, "reserved byte"),
     (Construct::AbstractHeapType, "abstract heap type"),
     (Construct::HandlerClause, "clause"),
+    (Construct::CompositeType, "composite type"),
+    (Construct::GlobalMutability, "mutability"),
+    (Construct::BranchHint, "branch hint"),
+    (Construct::FeaturePrefix, "feature prefix"),
+    (Construct::LinkingVersion, "linking version"),
+    (Construct::SymbolKind, "symbol kind"),
+    (Construct::CoreDumpValue, "core dump value"),
 ];
 
 /// The text for bytes that aren't a module, before what they look like.

@@ -39,17 +39,22 @@ pub enum Construct {
     AbstractHeapType,
     /// A reference type (Core 3.0, Reference Types).
     RefType,
-    /// The byte that says of which form a type is. Where it can't be that of a recursive type or a sub type, it is
-    /// `0x5D` to `0x60` (Core 3.0, Composite Types).
+    /// The first byte of a recursive type, a sub type or a composite type (Core 3.0, Recursive Types).
     TypeForm,
-    /// Whether a field or a global is mutable: 0 or 1. That of a shared global is 2 or 3.
+    /// The byte of a function, structure, array or continuation type (Core 3.0, Composite Types).
+    CompositeType,
+    /// Whether a field is mutable.
     Mutability,
+    /// Whether a global is mutable, and whether it is shared.
+    GlobalMutability,
     /// The flags of limits (Core 3.0, Limits).
     Limits,
     /// The flags of a memory type.
     MemoryFlags,
-    /// A table. After `0x40`, the byte 0 begins its form with an initial value.
+    /// A table.
     Table,
+    /// A byte that is 0 (Core 3.0, Table Section), also in core dumps.
+    Reserved,
     /// The attribute of a tag type.
     TagAttribute,
     /// The kind of an import.
@@ -78,8 +83,16 @@ pub enum Construct {
     SectionId,
     /// The id of a subsection.
     SubsectionId,
-    /// A field of a known custom section, such as a branch hint or a feature's prefix.
-    Field,
+    /// The byte of a branch hint.
+    BranchHint,
+    /// The prefix of a target feature.
+    FeaturePrefix,
+    /// The version of a `linking` section.
+    LinkingVersion,
+    /// The kind of a symbol.
+    SymbolKind,
+    /// The first byte of a value in a core dump.
+    CoreDumpValue,
 }
 
 impl fmt::Display for Construct {
@@ -100,10 +113,12 @@ impl fmt::Display for Construct {
             Construct::AbstractHeapType => "abstract heap type",
             Construct::RefType => "reference type",
             Construct::TypeForm => "type form",
-            Construct::Mutability => "mutability",
+            Construct::CompositeType => "composite type",
+            Construct::Mutability | Construct::GlobalMutability => "mutability",
             Construct::Limits => "limits flags",
             Construct::MemoryFlags => "memory flags",
             Construct::Table => "table",
+            Construct::Reserved => "reserved byte",
             Construct::TagAttribute => "tag attribute",
             Construct::ImportKind => "import kind",
             Construct::ExportKind => "export kind",
@@ -117,7 +132,11 @@ impl fmt::Display for Construct {
             Construct::DataForm => "data segment form",
             Construct::SectionId => "section id",
             Construct::SubsectionId => "subsection id",
-            Construct::Field => "field",
+            Construct::BranchHint => "branch hint",
+            Construct::FeaturePrefix => "feature prefix",
+            Construct::LinkingVersion => "linking version",
+            Construct::SymbolKind => "symbol kind",
+            Construct::CoreDumpValue => "core dump value",
         })
     }
 }

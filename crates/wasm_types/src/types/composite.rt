@@ -187,7 +187,7 @@ pub(crate) fn read_inner_type(
 ) -> Result<CompositeInnerType, Fault>
     ensures reads { Reads inner_type.at cursor.old cursor.new result }
 {
-    match cursor.byte_of(Construct::TypeForm)? {
+    match cursor.byte_of(Construct::CompositeType)? {
         0x60 => {
             let params = read_list(alloc, cursor)?;
             let results = read_list(alloc, cursor)?;
@@ -199,7 +199,7 @@ pub(crate) fn read_inner_type(
         }
         0x5e => Ok(CompositeInnerType::Array(ArrayType(take_field_type(cursor)?))),
         0x5d => Ok(CompositeInnerType::Cont(ContType(cursor.index()?))),
-        byte => Err(Fault::Malformed(cursor.invalid(Construct::TypeForm, byte))),
+        byte => Err(Fault::Malformed(cursor.invalid(Construct::CompositeType, byte))),
     }
 }
 
@@ -208,7 +208,7 @@ pub(crate) fn read_inner_type(
 pub(crate) fn rewrite_inner_type(rewriter: &mut Rewriter) -> Result<(), Fault>
     ensures rewrites { Rewrites inner_type rewriter.old rewriter.new result }
 {
-    match rewriter.byte_of(Construct::TypeForm)? {
+    match rewriter.byte_of(Construct::CompositeType)? {
         0x60 => {
             rewrite_list::<Item<'_, ValType>>(rewriter)?;
             rewrite_list::<Item<'_, ValType>>(rewriter)?;
@@ -220,7 +220,7 @@ pub(crate) fn rewrite_inner_type(rewriter: &mut Rewriter) -> Result<(), Fault>
         0x5d => {
             rewriter.index()?;
         }
-        byte => return Err(Fault::Malformed(rewriter.invalid(Construct::TypeForm, byte))),
+        byte => return Err(Fault::Malformed(rewriter.invalid(Construct::CompositeType, byte))),
     }
     Ok(())
 }
