@@ -11,6 +11,7 @@ import dataclasses
 import pathlib
 import re
 
+from parts.common import ROOT
 from parts.planted_kit import Fault, kit
 from parts.planted_sources import Sources
 
@@ -163,6 +164,13 @@ def laid_beside(others, edit, sources):
     taken = frozenset().union(*(it.functions for it in others))
     is_copied = edit.constants or edit.clause or taken & edit.functions
     return copied(edit, len(others), sources) if is_copied else edit
+
+
+def run(report):
+    """Checks that each edit of each crate can be applied, which needs no proof."""
+    for file in sorted(ROOT.glob(f"crates/*/{FILE}")):
+        for edit in edits_of(file.parent, entries_of(file.parent))[1]:
+            report.check(f"{file.parent.name}:{edit.name}", not edit.fault, edit.fault)
 
 
 def edits_of(folder, names):
