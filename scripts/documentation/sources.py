@@ -153,6 +153,8 @@ class Reader:
             at = self.until(at, semicolon)
             self.use_names(self.text[start:at])
             return at + 1
+        if kind == "ghost" and outer.kind == "struct":
+            return self.until(at, re.compile(r"[,}]")) + 1
         if kind in ("ghost", "const", "static", "type", "use"):
             at = self.until(at, semicolon)
             item.header = self.text[start:at]

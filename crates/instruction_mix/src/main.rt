@@ -12,7 +12,7 @@ mod mix;
 
 use crate::apart::write_mix_apart;
 use crate::lists::write_lists;
-use crate::mix::{write_mix, write_mix_in_room};
+use crate::mix::write_mix;
 use std::alloc::Allocator;
 use std::process::ExitCode;
 use std::{env, io};
@@ -34,8 +34,8 @@ enum Made {
 fn write_body<A: Allocator>(code: &mut Vec<u8, A>, made: Made) -> Result<(), EncodeError> {
     for round in 0..ROUNDS {
         match made {
-            Made::Mix => write_mix(code, round)?,
-            Made::Room => write_mix_in_room(code, round)?,
+            Made::Mix => write_mix::<0, A>(code, round)?,
+            Made::Room => write_mix::<20, A>(code, round)?,
             Made::Apart => write_mix_apart(code, round)?,
             Made::Lists => write_lists(code, round)?,
         }

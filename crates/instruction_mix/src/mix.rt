@@ -3,31 +3,19 @@
 use std::alloc::Allocator;
 use wasm_encoder::{BlockType, EncodeError, HeapType, Ieee64, InstructionSink, MemArg, ValType};
 
-/// The number of instructions that [`append_mix`] writes.
-const CALLS: u32 = 20;
-
-/// Writes the mix to a list that grows with each call.
-pub fn write_mix<A: Allocator>(code: &mut Vec<u8, A>, round: u32) -> Result<(), EncodeError> {
-    append_mix(InstructionSink::new(&mut *code), round)
-}
-
-/// Writes the mix to a list that grows once, before the first call.
-pub fn write_mix_in_room<A: Allocator>(
+/// Writes twenty instructions, after room for so many is reserved. Half of them have an operand.
+pub fn write_mix<const ROOM: u32, A: Allocator>(
     code: &mut Vec<u8, A>,
     round: u32,
 ) -> Result<(), EncodeError> {
-    append_mix(InstructionSink::new(&mut *code).with_room(CALLS)?, round)
-}
-
-/// Appends twenty instructions. Half of them have an operand.
-#[inline(always)]
-fn append_mix<A: Allocator>(sink: InstructionSink<'_, A>, round: u32) -> Result<(), EncodeError> {
     let memarg = MemArg {
         offset: u64::from(round % 300),
         align: 2,
         memory_index: 0,
     };
-    sink.block(BlockType::Result(ValType::I32))?
+    InstructionSink::new(&mut *code)
+        .with_room(ROOM)?
+        .block(BlockType::Result(ValType::I32))?
         .local_get(round % 10)?
         .local_get(round % 200)?
         .i32_add()?
