@@ -675,6 +675,29 @@ type section, type 2
 -000011      4 | type[2] func (i32) -> nil
 +000012      3 | type[2] func () -> nil
 """),
+    ("a group that needs two lines", HEADER + items(1, b"\x4E\3\x60\0\0\x60\0\0\x60\0\0"),
+     HEADER + items(1, b"\x4E\3\x60\0\0\x60\0\0\x60\1\x7F\0"), """\
+type section, type 0
+-00000b     11 | rec type[0] func () -> nil, type[1] func () -> nil, type[2]
+                   func () -> nil
++00000b     12 | rec type[0] func () -> nil, type[1] func () -> nil, type[2]
+                   func (i32) -> nil
+"""),
+    ("a group of locals", HEADER + TYPES + items(10, sized(b"\1\x82\0\x7F\x0B")),
+     HEADER + TYPES + items(10, sized(b"\1\3\x7F\x0B")), """\
+code section, function 0
+-000015      6 | func[0]
+-000017: 82 00 7f                   | 2 locals of i32; 3 bytes, minimal is 2
++000015      5 | func[0]
++000017: 03 7f                      | 3 locals of i32
+"""),
+    ("a group of locals more", HEADER + TYPES + items(10, sized(b"\1\2\x7F\x0B")),
+     HEADER + TYPES + items(10, sized(b"\2\2\x7F\1\x7E\x0B")), """\
+code section, function 0
+-000015      5 | func[0]
++000015      7 | func[0]
++000019: 01 7e                      | 1 local of i64
+"""),
     ("an instruction, and bytes of data", code(b"\x41\0\x1A") + b"\x0B\5\1\1\2ab", code(b"\x41\0\x1A", b"\1")
      + b"\x0B\5\1\1\2ac", """\
 code section, function 0

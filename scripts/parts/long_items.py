@@ -40,7 +40,7 @@ def names(last):
 
 
 def long_items():
-    """Each kind of item, with two modules that differ in the last byte or name of it."""
+    """Each kind of item, with two modules. They differ in the last byte or name of it, or the second lacks it."""
     yield "group of types", group(b"\x7E"), group(b"\x7D")
     yield "padded group of types", *(group(end, b"\x60\x81\0\x7F\1") for end in (b"\x7E", b"\x7D"))
     yield "br_table", *(code(b"\x41\0\x0E" + indexes(last) + b"\0") for last in (b"\0", b"\1"))
@@ -51,11 +51,10 @@ def long_items():
         HEADER + section(9, b"\1\2\0\x41\0\x0B\0" + indexes(last, b"\x80\0")) for last in (b"\x80\0", b"\x81\0"))
     yield "segment of expressions", *(HEADER + section(9, b"\1\5\x70" + expressions(last)) for last in (b"\0", b"\1"))
     yield "function", *(code(b"\x41\0\x1A" * (LENGTH // 3) + last) for last in (b"\1", b"\0"))
+    yield "padded function", *(code(b"\x41\x80\0\x1A" * (LENGTH // 4) + last) for last in (b"\1", b"\0"))
     yield "name map", names(b"\4last"), names(b"\4lost")
     yield "data segment", *(HEADER + section(11, b"\1\1" + sized(bytes(LENGTH) + last)) for last in (b"\0", b"\1"))
     yield "padded data segment", *(
         HEADER + section(11, b"\1\x81\0" + sized(bytes(LENGTH) + last)) for last in (b"\0", b"\1"))
-
-
-# Kinds of items whose text is short. The text of an item that differs is held.
-SHORT = ("function", "name map", "data segment", "padded data segment")
+    yield "group of types that one module lacks", group(b"\x7E"), HEADER + section(1, b"\0")
+    yield "element section that one module lacks", HEADER + section(9, b"\1\1\0" + indexes(b"\0")), HEADER

@@ -13,7 +13,7 @@ from parts.common import HELP, ROOT, both_programs, lacks, read_terminal, room, 
 from parts.listing_cases import (ALL_DIFFERENCES, CALL_AS_JSON, CUT_LISTINGS, EVERY, EVERY_AS_JSON, FUNCTION_NAMES,
                                  INSTRUCTIONS, LISTING, LISTINGS, NAMED_IMPORT, code)
 from parts.listing_runs import list_in, try_chosen_sections, try_contents, try_places
-from parts.long_items import SHORT, long_items
+from parts.long_items import long_items
 from parts.long_modules import leb, sized
 from parts.wasmcanon_cases import (CUT, CUT_AS_JSON, DISORDERED, ENCODINGS, FILES, FOREIGN, FUNCTION, HEADER, HINTED,
                                    HINTED_NOWHERE, HINTS_MOVED, IN_ORDER, LONGER, LONG_AS_JSON, LONG_SIZE, MALFORMED,
@@ -556,15 +556,14 @@ def names_of_functions(listing):
 
 
 def try_long_listing(runs):
-    """Lists modules with long items, whose values and texts are longer still. Only the module may be held."""
+    """Lists and compares modules with long items, whose values and texts are longer still. Only the modules may be
+    held."""
     least = least_memory(runs)
     for kind, one, other in long_items():
         (runs.room / "long_item").write_bytes(one)
         (runs.room / "other_item").write_bytes(other)
         for words in (["--list"], ["--list", "--json"]):
             in_little_memory(runs, least, f"a long {kind}", 0, "", "--any-order", *words, "long_item")
-        if kind not in SHORT:
-            continue
         differ = "error: long_item and other_item differ"
         for words in (["--diff"], ["--diff", "--json"], ["--diff", "--all"], ["--diff", "--all", "--json"]):
             files = ["long_item", "other_item"]
@@ -608,7 +607,8 @@ def try_all_differences(runs):
         runs.run("--diff", "--all", "--json", "one_of_two", "other_of_two")
         told = json.loads(runs.out)
         sides = [side["text"] for part in told["differences"] for side in (part["first"], part["second"]) if side]
-        lines = [line for line in wanted.splitlines() if re.match(r"[-+](section|\w+ +\d+ \|)", line)]
+        whole_lines = re.sub("\n +", " ", wanted).splitlines()
+        lines = [line for line in whole_lines if re.match(r"[-+](section|\w+ +\d+ \|)", line)]
         runs.holds(f"all differences as JSON: {name}", told["same"] is not bool(wanted) and len(sides) == len(lines)
                    and all(text in line for text, line in zip(sides, lines)))
     runs.holds("a difference from no module", runs.answers(1, f"error: cut: {CUT}\n", "--diff", "--all", "long", "cut"))

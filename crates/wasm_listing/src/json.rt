@@ -72,6 +72,14 @@ impl<'w, W: io::Write> ObjectWriter<'w, W> {
         }
     }
 
+    /// Returns a writer of further members of an object that has members.
+    pub fn go_on(writer: &'w mut W) -> ObjectWriter<'w, W> {
+        ObjectWriter {
+            writer,
+            has_members: true,
+        }
+    }
+
     /// Writes the name of a member. Its value comes next.
     fn name(&mut self, name: &str) -> io::Result<()> {
         let separator = if self.has_members { "," } else { "{" };

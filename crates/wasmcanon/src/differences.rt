@@ -11,9 +11,7 @@ use canon_cli::text::InputName;
 use std::alloc::{AllocError, Global};
 use std::io::{BufWriter, Stdout, Write};
 use wasm_listing::diff::{Difference, find_difference};
-use wasm_listing::listing::{
-    DifferentLines, DifferentValues, FirstItem, FirstLines, Stop, list_differences,
-};
+use wasm_listing::listing::{DifferentLines, DifferentValues, FirstItem, Stop, list_differences};
 
 /// Compares two modules, and prints all parts in which they differ.
 ///
@@ -60,7 +58,7 @@ pub fn print_first(rt: &HostRuntime, one: &[u8], other: &[u8]) -> Result<(), All
     let Ok(mut writer) = BufWriter::new(rt.alloc(), rt.stderr()) else {
         return Err(AllocError);
     };
-    let mut first = FirstLines::new(&mut writer);
+    let mut first = DifferentLines::of_first(rt.alloc(), &mut writer);
     if let Err(Stop::Memory) = list_differences(rt.alloc(), one, other, &mut first) {
         return Err(AllocError);
     }
@@ -146,7 +144,7 @@ fn list_parts(
         write!(writer, "{{\"differences\":[")?;
         list_differences(alloc, one, other, &mut DifferentValues::new(writer))
     } else {
-        list_differences(alloc, one, other, &mut DifferentLines::new(writer))
+        list_differences(alloc, one, other, &mut DifferentLines::new(alloc, writer))
     };
     match listed {
         Err(Stop::Malformed | Stop::Enough) => Ok(()),

@@ -1,11 +1,12 @@
 //! The parts in which two modules differ.
 use crate::diff::common_len;
 use crate::listing::{
-    HeadText, IndexSpaces, Instruction, ItemNames, ItemText, Listed, LocalsText, Part, PartReader,
+    IndexSpaces, Instruction, ItemNames, ItemText, Listed, LocalsText, Part, PartReader,
     SectionHead, Segment, Silent, Stop, Types, list_section,
 };
 use crate::sections::{LocatedSection, SectionWalk, rank};
-use std::alloc::{AllocError, Global};
+use std::alloc::Global;
+use std::fmt;
 use wasm_code::section::RawSection;
 use wasm_externals::limits::MemoryType;
 use wasm_externals::types::TagType;
@@ -18,7 +19,7 @@ use wasm_sections::imports::Import;
 use wasm_sections::tables::Table;
 
 /// A part that differs in two modules.
-#[derive(Drop)]
+#[derive(Clone, Copy)]
 pub struct DifferentPart<'a> {
     /// The section.
     pub section: RawSection<'a>,
@@ -28,38 +29,49 @@ pub struct DifferentPart<'a> {
     pub second_number: Option<usize>,
     /// Number of items before the part in the section. `None` means that the part is the section.
     pub item: Option<u32>,
-    /// What the first module has. `None` means nothing.
-    pub first: Option<Side<'a>>,
-    /// What the second module has. `None` means nothing.
-    pub second: Option<Side<'a>>,
+    /// Whether the first module has the part.
+    pub in_first: bool,
+    /// Whether the second module has it.
+    pub in_second: bool,
 }
 
-/// What one of two modules has.
-#[derive(Drop)]
-pub struct Side<'a> {
-    /// Whether the part is a section. Its text names the offset then.
-    pub is_section: bool,
-    /// The part.
-    pub part: Part<'a>,
-    /// Its text.
-    pub text: String,
-    /// The first detail of the part that differs.
-    pub detail: Option<Detail<'a>>,
+/// One of two modules that are compared.
+#[derive(Clone, Copy, PartialEq, Eq)]
+pub enum Side {
+    /// The first module.
+    First,
+    /// The second module.
+    Second,
 }
 
-/// A detail of a part that differs.
-#[derive(Drop)]
-pub enum Detail<'a> {
-    /// A group of locals or an instruction of a function, with its text.
-    Code(Part<'a>, String),
-    /// Bytes.
-    Row(Part<'a>),
-}
-
-/// What is done with the parts that differ.
+/// What is done with the parts that differ, piece by piece.
+///
+/// Between the start and the end of a part come the first module's calls and then the second's: `nothing` alone, or
+/// `section` or `item`, the first detail that differs if there is one, and `side_end`.
 pub trait Differences {
-    /// Lists a part that differs.
+    /// Begins a part.
     fn part(&mut self, part: &DifferentPart<'_>) -> Result<(), Stop>;
+
+    /// Begins the section that a module has.
+    fn section(&mut self, side: Side, head: &SectionHead<'_>) -> Result<(), Stop>;
+
+    /// Begins the item that a module has.
+    fn item(&mut self, side: Side, part: &Part<'_>, text: &ItemText<'_>) -> Result<(), Stop>;
+
+    /// Lists a group of locals or an instruction of a function.
+    fn code<T: fmt::Display>(&mut self, side: Side, part: &Part<'_>, text: &T) -> Result<(), Stop>;
+
+    /// Lists bytes of data.
+    fn row(&mut self, side: Side, part: &Part<'_>) -> Result<(), Stop>;
+
+    /// Ends what a module has.
+    fn side_end(&mut self) -> Result<(), Stop>;
+
+    /// Lists that a module has nothing.
+    fn nothing(&mut self, side: Side) -> Result<(), Stop>;
+
+    /// Ends a part.
+    fn part_end(&mut self) -> Result<(), Stop>;
 }
 
 /// Number of bytes of a detail.
@@ -121,11 +133,11 @@ pub fn list_differences<'a, D: Differences>(
                 compare_sections(alloc, &head, &next, &mut here, &mut there, out)?;
             }
             Sections::First(head) => {
-                list_only(alloc, &head, true, out)?;
+                list_only(&head, Side::First, out)?;
                 list_section(alloc, &head, &mut here, &mut Silent)?;
             }
             Sections::Second(head) => {
-                list_only(alloc, &head, false, out)?;
+                list_only(&head, Side::Second, out)?;
                 list_section(alloc, &head, &mut there, &mut Silent)?;
             }
         }
@@ -181,48 +193,34 @@ fn choose_one<'a>(head: SectionHead<'a>, next: SectionHead<'a>) -> Sections<'a> 
 }
 
 /// Lists a section that only one module has.
-fn list_only<'a, D: Differences>(
-    alloc: Global,
-    head: &SectionHead<'a>,
-    is_first: bool,
-    out: &mut D,
-) -> Result<(), Stop> {
-    let side = head_side(alloc, head, None)?;
+fn list_only<D: Differences>(head: &SectionHead<'_>, side: Side, out: &mut D) -> Result<(), Stop> {
     let number = Some(head.number);
-    let (first, second) = if is_first {
-        (Some(side), None)
-    } else {
-        (None, Some(side))
-    };
+    let in_first = side == Side::First;
     out.part(&DifferentPart {
         section: head.located.section,
-        first_number: if is_first { number } else { None },
-        second_number: if is_first { None } else { number },
+        first_number: if in_first { number } else { None },
+        second_number: if in_first { None } else { number },
         item: None,
-        first,
-        second,
-    })
+        in_first,
+        in_second: !in_first,
+    })?;
+    list_head(head, Side::First, in_first, out)?;
+    list_head(head, Side::Second, !in_first, out)?;
+    out.part_end()
 }
 
-/// Returns a section, with a detail of it.
-fn head_side<'a>(
-    alloc: Global,
-    head: &SectionHead<'a>,
-    detail: Option<Detail<'a>>,
-) -> Result<Side<'a>, AllocError> {
-    let located = head.located;
-    let part = Part {
-        number: 0,
-        at: located.at,
-        bytes: located.section.body,
-        minimal: None,
-    };
-    Ok(Side {
-        is_section: true,
-        part,
-        text: format!(in alloc; "{}", HeadText(head))?,
-        detail,
-    })
+/// Lists a section, if the module has it.
+fn list_head<D: Differences>(
+    head: &SectionHead<'_>,
+    side: Side,
+    has_it: bool,
+    out: &mut D,
+) -> Result<(), Stop> {
+    if !has_it {
+        return out.nothing(side);
+    }
+    out.section(side, head)?;
+    out.side_end()
 }
 
 /// Lists the items in which two sections of one kind differ.
@@ -235,7 +233,6 @@ fn compare_sections<'a, D: Differences>(
     out: &mut D,
 ) -> Result<(), Stop> {
     let mut pair = Pair {
-        alloc,
         section: one.located.section,
         first_number: one.number,
         second_number: other.number,
@@ -243,7 +240,7 @@ fn compare_sections<'a, D: Differences>(
         other: PartReader::new(alloc, other.located),
     };
     match one.located.section.id {
-        0 => compare_custom(alloc, one, other, out),
+        0 => compare_custom(one, other, out),
         1 => compare_items::<Types<'_>, D>(&mut pair, here, there, out),
         2 => compare_items::<Import<'_>, D>(&mut pair, here, there, out),
         3 => compare_items::<u32, D>(&mut pair, here, there, out),
@@ -263,7 +260,6 @@ fn compare_sections<'a, D: Differences>(
 /// Two sections of one kind.
 #[derive(Drop)]
 struct Pair<'a, 'b> {
-    alloc: Global,
     section: RawSection<'a>,
     first_number: usize,
     second_number: usize,
@@ -272,23 +268,15 @@ struct Pair<'a, 'b> {
 }
 
 impl<'a> Pair<'a, '_> {
-    /// Returns the part that differs, with what each module has.
-    fn part<'s>(
-        &self,
-        item: Option<u32>,
-        first: Option<Side<'s>>,
-        second: Option<Side<'s>>,
-    ) -> DifferentPart<'s>
-    where
-        'a: 's,
-    {
+    /// Returns the part that differs.
+    fn part(&self, item: Option<u32>, in_first: bool, in_second: bool) -> DifferentPart<'a> {
         DifferentPart {
             section: self.section,
             first_number: Some(self.first_number),
             second_number: Some(self.second_number),
             item,
-            first,
-            second,
+            in_first,
+            in_second,
         }
     }
 }
@@ -322,9 +310,10 @@ fn list_items<'a, T: Listed<'a>, D: Differences>(
     out: &mut D,
 ) -> Result<(), Stop> {
     let row = differ_at(contents_in(one, here), contents_in(other, there));
-    let first = item_side(pair.alloc, one, here, row)?;
-    let second = item_side(pair.alloc, other, there, row)?;
-    out.part(&pair.part(Some(number), first, second))
+    out.part(&pair.part(Some(number), one.is_some(), other.is_some()))?;
+    list_item(Side::First, one, here, row, out)?;
+    list_item(Side::Second, other, there, row, out)?;
+    out.part_end()
 }
 
 /// Counts an item, if there is one.
@@ -379,31 +368,24 @@ fn differ_at(one: Option<&[u8]>, other: Option<&[u8]>) -> Option<usize> {
     Some(common_len(one, other))
 }
 
-/// Returns what a module has in place of an item, with its bytes from `row` on.
-fn item_side<'a, T: Listed<'a>>(
-    alloc: Global,
+/// Lists what a module has in place of an item, with its bytes from `row` on.
+fn list_item<'a, T: Listed<'a>, D: Differences>(
+    side: Side,
     item: &Option<(Part<'a>, T)>,
     spaces: &IndexSpaces<'_>,
     row: Option<usize>,
-) -> Result<Option<Side<'a>>, AllocError> {
+    out: &mut D,
+) -> Result<(), Stop> {
     let Some((part, item)) = item else {
-        return Ok(None);
+        return out.nothing(side);
     };
-    let item = item.text(spaces);
-    let text = format!(in alloc; "{item}")?;
-    let len = item.contents().len();
-    let detail = row.map(|common| {
-        Detail::Row(row_at(
-            part,
-            part.bytes.len().saturating_sub(len).saturating_add(common),
-        ))
-    });
-    Ok(Some(Side {
-        is_section: false,
-        part: *part,
-        text,
-        detail,
-    }))
+    let text = item.text(spaces);
+    out.item(side, part, &text)?;
+    if let Some(common) = row {
+        let start = part.bytes.len().saturating_sub(text.contents().len());
+        out.row(side, &row_at(part, start.saturating_add(common)))?;
+    }
+    out.side_end()
 }
 
 /// Returns up to 16 bytes of a part, from this offset in it on.
@@ -425,45 +407,32 @@ fn compare_numbers<'a, D: Differences>(pair: &mut Pair<'a, 'a>, out: &mut D) -> 
     if one.1 == other.1 {
         return Ok(());
     }
-    list_numbers(pair, one, other, out)
+    out.part(&pair.part(None, true, true))?;
+    list_number(Side::First, pair.section.id, &one, out)?;
+    list_number(Side::Second, pair.section.id, &other, out)?;
+    out.part_end()
 }
 
-/// Lists the different numbers in two start sections or data count sections.
-fn list_numbers<'a, D: Differences>(
-    pair: &Pair<'a, 'a>,
-    one: (Part<'a>, u32),
-    other: (Part<'a>, u32),
+/// Lists the number in a start section or a data count section.
+fn list_number<D: Differences>(
+    side: Side,
+    id: u8,
+    (part, number): &(Part<'_>, u32),
     out: &mut D,
 ) -> Result<(), Stop> {
-    let first = number_side(pair.alloc, pair.section.id, one)?;
-    let second = number_side(pair.alloc, pair.section.id, other)?;
-    out.part(&pair.part(None, Some(first), Some(second)))
-}
-
-/// Returns the number in a start section or a data count section.
-fn number_side<'a>(
-    alloc: Global,
-    id: u8,
-    (part, number): (Part<'a>, u32),
-) -> Result<Side<'a>, AllocError> {
     let text = if id == 8 {
-        ItemText::Start(number, None)
+        ItemText::Start(*number, None)
     } else {
-        ItemText::DataCount(number)
+        ItemText::DataCount(*number)
     };
-    Ok(Side {
-        is_section: false,
-        part,
-        text: format!(in alloc; "{text}")?,
-        detail: None,
-    })
+    out.item(side, part, &text)?;
+    out.side_end()
 }
 
 /// Lists two custom sections of one name, if their contents differ.
-fn compare_custom<'a, D: Differences>(
-    alloc: Global,
-    one: &SectionHead<'a>,
-    other: &SectionHead<'a>,
+fn compare_custom<D: Differences>(
+    one: &SectionHead<'_>,
+    other: &SectionHead<'_>,
     out: &mut D,
 ) -> Result<(), Stop> {
     let (here, there) = (contents_of(one), contents_of(other));
@@ -471,26 +440,29 @@ fn compare_custom<'a, D: Differences>(
         return Ok(());
     }
     let common = common_len(here.bytes, there.bytes);
-    let first = contents_side(alloc, one, &here, common)?;
-    let second = contents_side(alloc, other, &there, common)?;
     out.part(&DifferentPart {
         section: one.located.section,
         first_number: Some(one.number),
         second_number: Some(other.number),
         item: None,
-        first: Some(first),
-        second: Some(second),
-    })
+        in_first: true,
+        in_second: true,
+    })?;
+    list_custom(Side::First, one, &row_at(&here, common), out)?;
+    list_custom(Side::Second, other, &row_at(&there, common), out)?;
+    out.part_end()
 }
 
-/// Returns a custom section, with its contents from this offset on.
-fn contents_side<'a>(
-    alloc: Global,
-    head: &SectionHead<'a>,
-    contents: &Part<'a>,
-    start: usize,
-) -> Result<Side<'a>, AllocError> {
-    head_side(alloc, head, Some(Detail::Row(row_at(contents, start))))
+/// Lists a custom section, with bytes of its contents.
+fn list_custom<D: Differences>(
+    side: Side,
+    head: &SectionHead<'_>,
+    row: &Part<'_>,
+    out: &mut D,
+) -> Result<(), Stop> {
+    out.section(side, head)?;
+    out.row(side, row)?;
+    out.side_end()
 }
 
 /// Returns the contents of a custom section after its name.
@@ -521,44 +493,20 @@ fn compare_functions<'a, D: Differences>(
     for number in 0..count.max(other_count) {
         let one = next_function(&mut pair.one, number, count)?;
         let other = next_function(&mut pair.other, number, other_count)?;
-        match compare_bodies(pair.alloc, &one, &other)? {
-            Compared::Same => {
+        match first_details(&one, &other)? {
+            None => {
                 here.next_body();
                 there.next_body();
             }
-            Compared::Different(detail, other_detail) => {
-                let first = function_side(pair.alloc, &one, here, detail)?;
-                let second = function_side(pair.alloc, &other, there, other_detail)?;
-                out.part(&pair.part(Some(number), first, second))?;
+            Some((detail, other_detail)) => {
+                out.part(&pair.part(Some(number), one.is_some(), other.is_some()))?;
+                list_function(Side::First, &one, here, detail, out)?;
+                list_function(Side::Second, &other, there, other_detail, out)?;
+                out.part_end()?;
             }
         }
     }
     Ok(())
-}
-
-/// The result of a comparison of two functions.
-#[derive(Drop)]
-enum Compared<'a> {
-    /// They have the same canonical form.
-    Same,
-    /// They differ. Holds the first details that differ.
-    Different(Option<Detail<'a>>, Option<Detail<'a>>),
-}
-
-/// Compares the functions that two modules have.
-fn compare_bodies<'a>(
-    alloc: Global,
-    one: &Option<(Part<'a>, PartReader<'a>)>,
-    other: &Option<(Part<'a>, PartReader<'a>)>,
-) -> Result<Compared<'a>, Stop> {
-    let (Some((part, code)), Some((other_part, other_code))) = (one, other) else {
-        return Ok(Compared::Different(None, None));
-    };
-    if part.bytes == other_part.bytes {
-        return Ok(Compared::Same);
-    }
-    let (mut code, mut other_code) = (code.again(), other_code.again());
-    first_details(alloc, &mut code, &mut other_code)
 }
 
 /// Reads the function with this number, if the section has that many.
@@ -573,126 +521,152 @@ fn next_function<'a>(
     Ok(None)
 }
 
-/// Returns what a module has in place of a function, and counts it.
-fn function_side<'a>(
-    alloc: Global,
-    function: &Option<(Part<'a>, PartReader<'a>)>,
-    spaces: &mut IndexSpaces<'_>,
-    detail: Option<Detail<'a>>,
-) -> Result<Option<Side<'a>>, AllocError> {
-    let Some((part, _)) = function else {
-        return Ok(None);
-    };
-    let index = spaces.next_body();
-    let text = ItemText::Body(index, spaces.function_name(index));
-    Ok(Some(Side {
-        is_section: false,
-        part: *part,
-        text: format!(in alloc; "{text}")?,
-        detail,
-    }))
+/// The first detail of a function that differs.
+#[derive(Clone, Copy)]
+enum Detail {
+    /// No detail, since the other function is longer or the only one.
+    None,
+    /// The group of locals with this number, at this position in the section's body.
+    Locals(u32, usize),
+    /// The instruction at this position.
+    Call(usize),
 }
 
-/// Returns the first groups of locals or instructions in which two functions differ.
-fn first_details<'a>(
-    alloc: Global,
-    one: &mut PartReader<'a>,
-    other: &mut PartReader<'a>,
-) -> Result<Compared<'a>, Stop> {
-    match first_groups(alloc, one, other)? {
-        Compared::Same => first_calls(alloc, one, other),
+/// Lists what a module has in place of a function, and counts it.
+fn list_function<D: Differences>(
+    side: Side,
+    function: &Option<(Part<'_>, PartReader<'_>)>,
+    spaces: &mut IndexSpaces<'_>,
+    detail: Detail,
+    out: &mut D,
+) -> Result<(), Stop> {
+    let Some((part, code)) = function else {
+        return out.nothing(side);
+    };
+    let index = spaces.next_body();
+    out.item(
+        side,
+        part,
+        &ItemText::Body(index, spaces.function_name(index)),
+    )?;
+    list_detail(side, code, detail, out)?;
+    out.side_end()
+}
+
+/// Lists a detail of a function.
+fn list_detail<D: Differences>(
+    side: Side,
+    code: &PartReader<'_>,
+    detail: Detail,
+    out: &mut D,
+) -> Result<(), Stop> {
+    match detail {
+        Detail::None => Ok(()),
+        Detail::Locals(number, position) => {
+            let (part, (count, ty)) = code.skip_to(position)?.local_group(number)?;
+            out.code(side, &part, &LocalsText(count, ty))
+        }
+        Detail::Call(position) => {
+            let (part, instruction) = Instruction::read(&mut code.skip_to(position)?)?;
+            out.code(side, &part, &instruction)
+        }
+    }
+}
+
+/// Returns the first details in which the functions of two modules differ. `None` means that both have the same one.
+fn first_details(
+    one: &Option<(Part<'_>, PartReader<'_>)>,
+    other: &Option<(Part<'_>, PartReader<'_>)>,
+) -> Result<Option<(Detail, Detail)>, Stop> {
+    let (Some((part, code)), Some((other_part, other_code))) = (one, other) else {
+        return Ok(Some((Detail::None, Detail::None)));
+    };
+    if part.bytes == other_part.bytes {
+        return Ok(None);
+    }
+    let (mut code, mut other_code) = (code.again(), other_code.again());
+    match first_locals(&mut code, &mut other_code)? {
+        None => first_calls(&mut code, &mut other_code),
         different => Ok(different),
     }
 }
 
 /// Returns the first groups of locals in which two functions differ, and passes those before.
-fn first_groups<'a>(
-    alloc: Global,
-    one: &mut PartReader<'a>,
-    other: &mut PartReader<'a>,
-) -> Result<Compared<'a>, Stop> {
+fn first_locals(
+    one: &mut PartReader<'_>,
+    other: &mut PartReader<'_>,
+) -> Result<Option<(Detail, Detail)>, Stop> {
     let (groups, other_groups) = (one.number()?, other.number()?);
     for number in 0..groups.max(other_groups) {
-        let first = next_group(alloc, one, number, groups)?;
-        let second = next_group(alloc, other, number, other_groups)?;
-        if !have_same_text(&first, &second) {
-            return Ok(Compared::Different(first, second));
+        let first = locals_at(one, number, groups);
+        let second = locals_at(other, number, other_groups);
+        if next_group(one, number, groups)? != next_group(other, number, other_groups)? {
+            return Ok(Some((first, second)));
         }
     }
-    Ok(Compared::Same)
+    Ok(None)
 }
 
-/// Returns the first instructions in which two functions differ whose locals are the same.
-fn first_calls<'a>(
-    alloc: Global,
-    one: &mut PartReader<'a>,
-    other: &mut PartReader<'a>,
-) -> Result<Compared<'a>, Stop> {
-    for _ in 0..one.len().saturating_add(other.len()) {
-        let (first, second) = (next_instruction(one)?, next_instruction(other)?);
-        if !are_same_instructions(&first, &second)? {
-            let first = code_detail(alloc, &first)?;
-            let second = code_detail(alloc, &second)?;
-            return Ok(Compared::Different(first, second));
-        }
+/// Returns the group of locals with this number, which comes next if the function has that many.
+fn locals_at(code: &PartReader<'_>, number: u32, count: u32) -> Detail {
+    if number < count {
+        return Detail::Locals(number, code.position());
     }
-    Ok(Compared::Same)
-}
-
-/// Checks whether two functions have the same instruction.
-fn are_same_instructions(
-    one: &Option<(Part<'_>, Instruction<'_>)>,
-    other: &Option<(Part<'_>, Instruction<'_>)>,
-) -> Result<bool, Stop> {
-    match (one, other) {
-        (Some((_, one)), Some((_, other))) => one.is_same(other),
-        (None, None) => Ok(true),
-        _ => Ok(false),
-    }
-}
-
-/// Returns an instruction with its text.
-fn code_detail<'a>(
-    alloc: Global,
-    instruction: &Option<(Part<'a>, Instruction<'a>)>,
-) -> Result<Option<Detail<'a>>, AllocError> {
-    let Some((part, instruction)) = instruction else {
-        return Ok(None);
-    };
-    let text = format!(in alloc; "{instruction}")?;
-    Ok(Some(Detail::Code(*part, text)))
-}
-
-/// Checks whether two groups of locals have the same text.
-fn have_same_text(one: &Option<Detail<'_>>, other: &Option<Detail<'_>>) -> bool {
-    match (one, other) {
-        (Some(Detail::Code(_, one)), Some(Detail::Code(_, other))) => one == other,
-        (None, None) => true,
-        _ => false,
-    }
+    Detail::None
 }
 
 /// Reads the group of locals with this number, if the function has that many.
-fn next_group<'a>(
-    alloc: Global,
-    code: &mut PartReader<'a>,
+fn next_group(
+    code: &mut PartReader<'_>,
     number: u32,
     count: u32,
-) -> Result<Option<Detail<'a>>, Stop> {
+) -> Result<Option<LocalsText>, Stop> {
     if number >= count {
         return Ok(None);
     }
-    let (part, (locals, ty)) = code.local_group(number)?;
-    let text = format!(in alloc; "{}", LocalsText(locals, ty))?;
-    Ok(Some(Detail::Code(part, text)))
+    let (_, (locals, ty)) = code.local_group(number)?;
+    Ok(Some(LocalsText(locals, ty)))
+}
+
+/// Returns the first instructions in which two functions differ whose locals are the same.
+fn first_calls(
+    one: &mut PartReader<'_>,
+    other: &mut PartReader<'_>,
+) -> Result<Option<(Detail, Detail)>, Stop> {
+    for _ in 0..one.len().saturating_add(other.len()) {
+        let (first, second) = (call_at(one), call_at(other));
+        if !are_same_calls(&next_call(one)?, &next_call(other)?)? {
+            return Ok(Some((first, second)));
+        }
+    }
+    Ok(None)
+}
+
+/// Returns the next instruction of a function, if there is one.
+fn call_at(code: &PartReader<'_>) -> Detail {
+    if code.len() == 0 {
+        return Detail::None;
+    }
+    Detail::Call(code.position())
 }
 
 /// Reads the next instruction of a function, if there is one.
-fn next_instruction<'a>(
-    code: &mut PartReader<'a>,
-) -> Result<Option<(Part<'a>, Instruction<'a>)>, Stop> {
+fn next_call<'a>(code: &mut PartReader<'a>) -> Result<Option<Instruction<'a>>, Stop> {
     if code.len() == 0 {
         return Ok(None);
     }
-    Ok(Some(Instruction::read(code)?))
+    let (_, instruction) = Instruction::read(code)?;
+    Ok(Some(instruction))
+}
+
+/// Checks whether two functions have the same instruction.
+fn are_same_calls(
+    one: &Option<Instruction<'_>>,
+    other: &Option<Instruction<'_>>,
+) -> Result<bool, Stop> {
+    match (one, other) {
+        (Some(one), Some(other)) => one.is_same(other),
+        (None, None) => Ok(true),
+        _ => Ok(false),
+    }
 }

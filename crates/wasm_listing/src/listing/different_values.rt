@@ -1,6 +1,8 @@
 //! The parts in which two modules differ, as JSON.
 use crate::json::ObjectWriter;
-use crate::listing::{Detail, Differences, DifferentPart, Part, Side, Stop};
+use crate::listing::{
+    Differences, DifferentPart, HeadText, ItemText, Part, SectionHead, Side, Stop,
+};
 use crate::sections::kind_name;
 use std::{fmt, io};
 
@@ -8,8 +10,10 @@ use std::{fmt, io};
 #[derive(Drop)]
 pub struct DifferentValues<'w, W> {
     writer: &'w mut W,
-    /// Whether a value was written.
-    has_members: bool,
+    /// Whether a part was written.
+    has_parts: bool,
+    /// Whether a detail of what the module has was written.
+    has_detail: bool,
 }
 
 impl<'w, W: io::Write> DifferentValues<'w, W> {
@@ -17,19 +21,76 @@ impl<'w, W: io::Write> DifferentValues<'w, W> {
     pub fn new(writer: &'w mut W) -> DifferentValues<'w, W> {
         DifferentValues {
             writer,
-            has_members: false,
+            has_parts: false,
+            has_detail: false,
         }
+    }
+}
+
+/// Returns the name of the member for what a module has.
+fn name_of(side: Side) -> &'static str {
+    match side {
+        Side::First => "first",
+        Side::Second => "second",
     }
 }
 
 impl<W: io::Write> Differences for DifferentValues<'_, W> {
     fn part(&mut self, part: &DifferentPart<'_>) -> Result<(), Stop> {
-        if self.has_members {
+        if self.has_parts {
             write!(self.writer, ",")?;
         }
-        self.has_members = true;
+        self.has_parts = true;
         writeln!(self.writer)?;
-        write_part(self.writer, part)?;
+        open_part(self.writer, part)?;
+        Ok(())
+    }
+
+    fn section(&mut self, side: Side, head: &SectionHead<'_>) -> Result<(), Stop> {
+        self.has_detail = false;
+        let place = Place(head.located.at, head.located.section.body.len());
+        open_object(self.writer, name_of(side), place, &HeadText(head))?;
+        Ok(())
+    }
+
+    fn item(&mut self, side: Side, part: &Part<'_>, text: &ItemText<'_>) -> Result<(), Stop> {
+        self.has_detail = false;
+        open_object(self.writer, name_of(side), Place::of(part), text)?;
+        Ok(())
+    }
+
+    fn code<T: fmt::Display>(
+        &mut self,
+        _side: Side,
+        part: &Part<'_>,
+        text: &T,
+    ) -> Result<(), Stop> {
+        self.has_detail = true;
+        open_object(self.writer, "detail", Place::of(part), text)?;
+        self.writer.write_all(b"}")?;
+        Ok(())
+    }
+
+    fn row(&mut self, side: Side, part: &Part<'_>) -> Result<(), Stop> {
+        self.code(side, part, &RowText(part))
+    }
+
+    fn side_end(&mut self) -> Result<(), Stop> {
+        let mut object = ObjectWriter::go_on(self.writer);
+        if !self.has_detail {
+            object.put("detail", "null")?;
+        }
+        object.end()?;
+        Ok(())
+    }
+
+    fn nothing(&mut self, side: Side) -> Result<(), Stop> {
+        ObjectWriter::go_on(self.writer).put(name_of(side), "null")?;
+        Ok(())
+    }
+
+    fn part_end(&mut self) -> Result<(), Stop> {
+        self.writer.write_all(b"}")?;
         Ok(())
     }
 }
@@ -53,19 +114,74 @@ impl Differences for FirstItem {
         self.number = part.item;
         Err(Stop::Enough)
     }
+
+    fn section(&mut self, _side: Side, _head: &SectionHead<'_>) -> Result<(), Stop> {
+        Ok(())
+    }
+
+    fn item(&mut self, _side: Side, _part: &Part<'_>, _text: &ItemText<'_>) -> Result<(), Stop> {
+        Ok(())
+    }
+
+    fn code<T: fmt::Display>(
+        &mut self,
+        _side: Side,
+        _part: &Part<'_>,
+        _text: &T,
+    ) -> Result<(), Stop> {
+        Ok(())
+    }
+
+    fn row(&mut self, _side: Side, _part: &Part<'_>) -> Result<(), Stop> {
+        Ok(())
+    }
+
+    fn side_end(&mut self) -> Result<(), Stop> {
+        Ok(())
+    }
+
+    fn nothing(&mut self, _side: Side) -> Result<(), Stop> {
+        Ok(())
+    }
+
+    fn part_end(&mut self) -> Result<(), Stop> {
+        Ok(())
+    }
 }
 
-/// Writes a part that differs.
-fn write_part<W: io::Write>(writer: &mut W, part: &DifferentPart<'_>) -> io::Result<()> {
+/// Writes a part up to what the modules have. Its object stays open.
+fn open_part<W: io::Write>(writer: &mut W, part: &DifferentPart<'_>) -> io::Result<()> {
     let mut object = ObjectWriter::new(writer);
     object.put("id", part.section.id)?;
     object.put_text("kind", &kind_name(part.section.id))?;
     let (first, second) = (Index(part.first_number), Index(part.second_number));
     object.put("sections", format_args!("[{first},{second}]"))?;
-    object.put_option("item", part.item)?;
-    put_side(&mut object, "first", &part.first)?;
-    put_side(&mut object, "second", &part.second)?;
-    object.end()
+    object.put_option("item", part.item)
+}
+
+/// The offset and the size of a section or a part.
+#[derive(Clone, Copy)]
+struct Place(usize, usize);
+
+impl Place {
+    /// Returns the place of a part.
+    fn of(part: &Part<'_>) -> Place {
+        Place(part.at, part.bytes.len())
+    }
+}
+
+/// Writes a member that is an object with a place and a text. It stays open.
+fn open_object<W: io::Write, D: fmt::Display>(
+    writer: &mut W,
+    name: &str,
+    Place(offset, size): Place,
+    text: &D,
+) -> io::Result<()> {
+    let mut outer = ObjectWriter::go_on(writer);
+    let mut object = outer.object(name)?;
+    object.put("offset", offset)?;
+    object.put("size", size)?;
+    object.put_text("text", text)
 }
 
 /// The number of a section, or `null`.
@@ -79,48 +195,6 @@ impl fmt::Display for Index {
             None => f.write_str("null"),
         }
     }
-}
-
-/// Writes what a module has, or `null`.
-fn put_side<W: io::Write>(
-    object: &mut ObjectWriter<'_, W>,
-    name: &str,
-    side: &Option<Side<'_>>,
-) -> io::Result<()> {
-    let Some(side) = side else {
-        return object.put(name, "null");
-    };
-    let mut value = object.object(name)?;
-    put_part(&mut value, &side.part, &side.text)?;
-    put_detail(&mut value, &side.detail)?;
-    value.end()
-}
-
-/// Writes the first detail that differs, or `null`.
-fn put_detail<W: io::Write>(
-    object: &mut ObjectWriter<'_, W>,
-    detail: &Option<Detail<'_>>,
-) -> io::Result<()> {
-    let Some(detail) = detail else {
-        return object.put("detail", "null");
-    };
-    let mut value = object.object("detail")?;
-    match detail {
-        Detail::Code(part, text) => put_part(&mut value, part, text)?,
-        Detail::Row(part) => put_part(&mut value, part, &RowText(part))?,
-    }
-    value.end()
-}
-
-/// Writes the place and the text of a part.
-fn put_part<W: io::Write, D: fmt::Display>(
-    object: &mut ObjectWriter<'_, W>,
-    part: &Part<'_>,
-    text: &D,
-) -> io::Result<()> {
-    object.put("offset", part.at)?;
-    object.put("size", part.bytes.len())?;
-    object.put_text("text", text)
 }
 
 /// Bytes in hexadecimal digits.

@@ -6,6 +6,7 @@ use wasm_code::code::normaliser::read_local_group;
 use wasm_codec::encode::EncodeError;
 use wasm_codec::encode::leb128::u32_len;
 use wasm_codec::reader::cursor::Cursor;
+use wasm_codec::reader::malformed::Construct;
 use wasm_codec::rewriter::Rewriter;
 use wasm_externals::expressions::{encode_expr, read_expr};
 use wasm_externals::names::read_name;
@@ -89,6 +90,14 @@ impl<'a> PartReader<'a> {
             located: self.located,
             cursor: self.cursor.fork(),
         }
+    }
+
+    /// Returns a second reader at a later position in the body. Fails with `Malformed` if fewer bytes are left.
+    pub fn skip_to(&self, position: usize) -> Result<PartReader<'a>, Stop> {
+        let mut reader = self.again();
+        let skipped = position.saturating_sub(self.position());
+        reader.cursor.take(skipped, Construct::Body)?;
+        Ok(reader)
     }
 
     /// Returns the number of bytes left.
