@@ -37,6 +37,17 @@ pub fn operator(sink: InstructionSink<'_, Global>, symbol: u8) -> Result<(), Enc
     Ok(())
 }
 """,
+    "handed_on": """
+/// Appends an operator through a sink passed by value.
+pub fn handed_on(sink: InstructionSink<'_, Global>) -> Result<(), EncodeError> {
+    emit(sink)?;
+    Ok(())
+}
+
+fn emit(sink: InstructionSink<'_, Global>) -> Result<InstructionSink<'_, Global>, EncodeError> {
+    sink.i32_add()
+}
+""",
     "chain": """
 /// Appends two sections in one chain.
 pub fn chain(module: &mut Module, start: &StartSection) -> Result<(), EncodeError> {

@@ -43,13 +43,13 @@ fn check_method(
 }
 
 /// Calls the method of this name, with the operands that the tokens stand for.
-pub fn write_method<'a, A: Allocator>(
+pub fn write_method<A: Allocator>(
     alloc: Global,
-    sink: InstructionSink<'a, A>,
+    list: &mut Vec<u8, A>,
     method: &str,
     operands: &str,
 ) -> Result<(), Mismatch> {
-    write(alloc, sink, method, operands)?;
+    write(alloc, InstructionSink::new(list), method, operands)?;
     Ok(())
 }
 

@@ -85,9 +85,7 @@ fn write<A: Allocator>(
     list: &mut Vec<u8, A>,
 ) -> Result<(), Mismatch> {
     match written {
-        Written::Method(name, operands) => {
-            write_method(alloc, InstructionSink::new(list), name, operands)
-        }
+        Written::Method(name, operands) => write_method(alloc, list, name, operands),
         Written::Token(token) => encode(alloc, token, list),
         Written::Call(call) => Ok(write_call(call, list)?),
         Written::Calls(calls) => Ok(write_calls(calls, list)?),
