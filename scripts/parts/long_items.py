@@ -3,7 +3,7 @@ from parts.long_modules import leb, sized
 from parts.wasmcanon_cases import FUNCTION, HEADER, TYPE
 
 # Length of the item, of which a copy would be noticed.
-LENGTH = 6_000_000
+LENGTH = 3_000_000
 
 
 def section(number, body):

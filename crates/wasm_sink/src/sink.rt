@@ -21,7 +21,7 @@ use wasm_codec::encode::EncodeError;
 use wasm_instructions::calls::{append_call, append_calls};
 use wasm_instructions::table::Call;
 
-/// The bytes that a call without a list may take.
+/// The bytes that are reserved for a call without a list.
 const ROOM: usize = 24;
 
 /// Appends instructions to a list of bytes.
@@ -69,8 +69,7 @@ impl<'a, A: Allocator> InstructionSink<'a, A> {
     /// of them has a list, or is [`write_call`](InstructionSink::write_call) or
     /// [`write_calls`](InstructionSink::write_calls), which leave no room.
     ///
-    /// A call without a list takes up to 24 bytes. In a chain after a constant number of calls, none tests whether it
-    /// has room.
+    /// It reserves 24 bytes for each call. In a chain after a constant number of calls, none tests whether it has room.
     ///
     /// Fails with `Memory` if the list can't grow by 24 bytes for each call.
     ///
