@@ -1,8 +1,9 @@
 """Runs `rt ci` with these words, and shares out the processors in another way.
 
-The kit counts the tests of each crate as a second proof, also if there are none, and plans with two to four times the
-memory that proofs take here. Both keep processors from a crate that all others wait for. If RATTLE_TIMES names a file,
-timed_rattle.py adds a line on each call of rattle.
+The kit gives a crate fewer processors if other crates could be proved beside it. Most libraries wait for those below
+them, so here these come first, and nothing runs beside a library that all others wait for. The kit also counts the
+tests of each crate as a second proof, even if there are none, and plans with two to four times the memory that proofs
+take here. If RATTLE_TIMES names a file, timed_rattle.py adds a line on each call of rattle.
 """
 import os
 import pathlib
@@ -11,14 +12,26 @@ import sys
 sys.path.insert(0, str(pathlib.Path(__file__).resolve().parents[1]))
 from parts.planted_kit import kit  # noqa: E402
 
+# Libraries that are proved with those below them before others: all those of a group before the next group.
+FIRST = (("wasm_encoder",), ("wasm_listing", "flat_refusals"))
+
+
+def after_first(tasks):
+    """For each task, the proofs of the groups before it."""
+    waits, before = {}, []
+    for group in FIRST:
+        tops = [(name, "proof") for name in group if (name, "proof") in tasks]
+        for key in {below for top in tops for below in (top, *tasks[top][0])}:
+            waits.setdefault(key, before)
+        before = [*before, *tops]
+    return {key: waits.get(key, before) for key in tasks}
+
 
 def in_lanes(tasks, kits=kit().in_lanes):
-    """Does the tasks as the kit does, and at the end those of crates without tests, which nothing else waits for."""
-    awaited = {key for waits, *_ in tasks.values() for key in waits if key[1] == "tests"}
-    empty = [key for key, (_, lines, *_) in tasks.items() if key[1] == "tests" and not lines and key not in awaited]
-    given = kits({key: task for key, task in tasks.items() if key not in empty})
-    given.update({key: tasks[key][3](given, 1) for key in empty})
-    return given
+    """Does the tasks as the kit does. Tests also wait for the proof of their crate, and others for the first libraries."""
+    first = after_first(tasks)
+    own = {key: [(key[0], "proof")] if key[1] == "tests" else [] for key in tasks}
+    return kits({key: ([*waits, *first[key], *own[key]], *more) for key, (waits, *more) in tasks.items()})
 
 
 def need(crate, kits=kit().need):
@@ -34,4 +47,5 @@ def main():
     return kit().main(["ci", *sys.argv[1:]])
 
 
-sys.exit(main())
+if __name__ == "__main__":
+    sys.exit(main())

@@ -1,19 +1,14 @@
 """Every proof, test, must-fail edit, program and vector: `rt ci`.
 
-Two runs share the processors better than one. Each library waits for those below it, so the first run proves these
-alone, and gives several processors to one crate. The programs and tests above don't wait for each other, and rt would
-count on more memory than they take; so RT_JOBS lets `rt ci` prove one on each processor. It takes what the first kept.
+kit_ci.py shares out the processors.
 """
 import os
-import subprocess
 import sys
 
 from parts import times
 from parts.common import ROOT, counted, program, room
 from parts.kept import keep, sources
 
-# The libraries on which no other library stands.
-LIBRARIES = ("wasm_encoder", "wasm_listing", "flat_refusals")
 PROGRAMS = ("wasmcanon", "wasmnorm")
 # The static libraries that scripts compile.
 STATIC = ("nosgrivel_c", "nosgrivel_wasm")
@@ -29,7 +24,7 @@ def run(report, is_timed=False):
     if is_timed:
         prove_timed(report)
     else:
-        prove(report, ["rt", "ci"], os.environ)
+        counted(report, "rt ci", KIT_CI)
     if not report.counts["failed"]:
         proved.update({crate: known for crate, known in before.items() if sources(crate) == known})
     for crate, known in proved.items():
@@ -42,19 +37,13 @@ def run(report, is_timed=False):
             keep(crate, proved[crate], program(crate))
 
 
-# Runs `rt ci` with words, as scripts/parts/kit_ci.py does.
+# Runs `rt ci`.
 KIT_CI = [sys.executable, str(ROOT / "scripts/parts/kit_ci.py")]
-
-
-def prove(report, command, environment):
-    """Proves the libraries, and then all by a command. Only the second run counts: it judges the libraries as well."""
-    subprocess.run([*KIT_CI, *LIBRARIES], stdin=subprocess.DEVNULL, cwd=ROOT, env=environment)
-    counted(report, "rt ci", command, env={**environment, "RT_JOBS": str(times.cores())})
 
 
 def prove_timed(report):
     """Does the same, and notes what each call of rattle takes."""
     with room() as folder:
         file = folder / "calls"
-        prove(report, KIT_CI, {**os.environ, "RATTLE_TIMES": str(file)})
+        counted(report, "rt ci", KIT_CI, env={**os.environ, "RATTLE_TIMES": str(file)})
         calls.extend(times.calls_of(file))
