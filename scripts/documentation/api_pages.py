@@ -254,7 +254,7 @@ def write_trait(interface, page, entry):
         page.bullets(said)
 
 
-# The documentation of a method of the sink, as scripts/method-docs writes it.
+# The documentation of a method of the sink, as scripts/opcodes writes it.
 INSTRUCTION = re.compile(r"`([^`]+)`(?: ([^:`]*))?: `((?:0x[0-9A-F]{2} ?)+)`(?:, then (.*?))?\.(?: (.*))?$")
 
 

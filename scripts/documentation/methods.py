@@ -1,16 +1,14 @@
-"""The documentation of the sink's methods, by the table method-docs.tsv: a row for each method, with the name of its
-instruction in the text format, the bytes of its opcode, and its operands in the order in which they are written. Also
-the names of opcodes in the text format, at the places of their numbers."""
+"""The documentation of the sink's methods, by the table opcodes.tsv: a row for each method, with the name of its
+instruction in the text format, the bytes of its opcode, and its operands in the order in which they are written."""
 import re
 import textwrap
 
+from documentation import opcode_tables
 from documentation.sources import ROOT
 
-TABLE = ROOT / "scripts/method-docs.tsv"
+TABLE = ROOT / "scripts/opcodes.tsv"
 SOURCES = ROOT / "crates/wasm_sink/src/sink"
 VECTORS = [ROOT / "crates/replay/data" / name for name in ("sink.tsv", "worked_sink.tsv")]
-NAMES = ROOT / "crates/wasm_instructions/src/names/opcodes.rt"
-PREFIXES = {None: "WITHOUT_PREFIX", 0xFB: "AFTER_FB", 0xFC: "AFTER_FC", 0xFD: "AFTER_FD", 0xFE: "AFTER_FE"}
 METHOD = re.compile(r"((?:    ///.*\n)*)(?:    #\[inline.*\n)?    pub fn (\w+)(?s:.*?)ensures emits \{.*?"
                     r"\((without_prefix|after_f[b-e]) 0x(\w+)\)")
 WIDTH = 120 - len("    /// ")
@@ -95,19 +93,6 @@ def prefix_and_number(opcode):
     return first, sum((digit % 0x80) << (7 * place) for place, digit in enumerate(digits))
 
 
-def names(rows):
-    """The file of the names: for each prefix an array, with an empty name at a number that is no opcode."""
-    named = {prefix_and_number(opcode): name.split(" ")[0] for name, opcode, *_ in rows}
-    lines = ["//! The name of each opcode, at the place of its number. A number that is no opcode has an empty one."]
-    for prefix, constant in PREFIXES.items():
-        end = 1 + max(number for before, number in named if before == prefix)
-        about = "Opcodes of one byte." if prefix is None else f"Opcodes after `0x{prefix:02X}`."
-        lines += ["", f"/// {about}", f"pub(super) const {constant}: [&str; {end}] = ["]
-        lines += [f'    "{named.get((prefix, number), "")}",' for number in range(end)]
-        lines += ["];"]
-    return "\n".join(lines) + "\n"
-
-
 def differing_vectors(rows):
     """The methods whose vectors begin with another opcode than their row has, and those that have no vector."""
     opcodes = {method: bytes(int(byte, 16) for byte in row[1].split()) for method, row in rows.items()}
@@ -129,9 +114,10 @@ class Made:
     def __init__(self):
         self.rows = rows_of_table()
         self.texts, self.differing, self.faults, self.documented = {}, [], [], set()
-        self.texts[NAMES] = names(self.rows.values())
-        if not NAMES.exists() or NAMES.read_text("utf-8") != self.texts[NAMES]:
-            self.differing.append(NAMES.name)
+        named = {prefix_and_number(opcode): name.split(" ")[0] for name, opcode, *_ in self.rows.values()}
+        self.faults += opcode_tables.faults(named)
+        self.texts.update(opcode_tables.texts(named))
+        self.differing += [file.name for file, text in self.texts.items() if file.read_text("utf-8") != text]
         for path in sorted(SOURCES.rglob("*.rt")):
             if not path.relative_to(SOURCES).parts[0].startswith("emit"):
                 self.texts[path] = METHOD.sub(self.document, path.read_text("utf-8"))

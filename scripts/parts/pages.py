@@ -336,7 +336,7 @@ def items_of(code):
 
 def counts():
     """The numbers that pages may name, by the words after them."""
-    rows = (ROOT / "scripts/method-docs.tsv").read_text("utf-8").splitlines()[1:]
+    rows = (ROOT / "scripts/opcodes.tsv").read_text("utf-8").splitlines()[1:]
     tables = [item for file in ROOT.glob("crates/*/src/table/*.rt") for item in sources.read(file).children]
     kinds = next(item for item in tables if item.kind == "enum" and item.name == "Kind")
     header = (ROOT / "bindings/c/nosgrivel.h").read_text("utf-8")

@@ -5,7 +5,7 @@ use std::alloc::Allocator;
 use wasm_encoder::{EncodeError, InstructionSink};
 
 /// Whether this method is called. Of every other method the contract says which call it appends, and
-/// `scripts/gate method-docs` compares its opcode with the vectors.
+/// `scripts/gate opcodes` compares its opcode with the vectors.
 pub(crate) fn is_called(method: &str) -> bool {
     METHODS.contains(&method)
 }

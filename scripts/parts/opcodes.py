@@ -1,10 +1,10 @@
-"""The sink's methods are documented as scripts/method-docs writes it, and their vectors have their opcodes."""
+"""Tables of opcodes and documentation of methods are as scripts/opcodes writes them; vectors have their opcodes."""
 from documentation.methods import Made, differing_vectors
 
 
 def run(report):
     made = Made()
-    faults = made.faults + [(name, "not as scripts/method-docs writes it") for name in made.differing]
+    faults = made.faults + [(name, "not as scripts/opcodes writes it") for name in made.differing]
     faults += [(name, "no vector of the opcode that its row has") for name in differing_vectors(made.rows)]
     for name, why in faults:
         report.failed(name, why)
