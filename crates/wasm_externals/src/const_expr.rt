@@ -65,6 +65,7 @@ pub(crate) enum Calls {
 
 impl Calls {
     /// Returns the instructions.
+    #[inline(always)]
     fn as_slice(&self) -> &[Call]
         ensures value { result.now ≡ calls_of self.now }
     {
@@ -148,6 +149,7 @@ impl ConstExpr {
     }
 
     /// Makes the expression `i32.const value`. Allocates nothing.
+    #[inline(always)]
     pub fn i32_const(alloc: Global, value: i32) -> Result<ConstExpr, EncodeError>
         ensures makes { Makes (call (without_prefix 0x41) (operands.I32 value) ∷ []) result }
     {
@@ -155,6 +157,7 @@ impl ConstExpr {
     }
 
     /// Makes the expression `i64.const value`. Allocates nothing.
+    #[inline(always)]
     pub fn i64_const(alloc: Global, value: i64) -> Result<ConstExpr, EncodeError>
         ensures makes { Makes (call (without_prefix 0x42) (operands.I64 value) ∷ []) result }
     {
@@ -162,6 +165,7 @@ impl ConstExpr {
     }
 
     /// Makes the expression `f32.const value`. Allocates nothing.
+    #[inline(always)]
     pub fn f32_const(alloc: Global, value: Ieee32) -> Result<ConstExpr, EncodeError>
         ensures makes { Makes (call (without_prefix 0x43) (operands.F32 value) ∷ []) result }
     {
@@ -169,6 +173,7 @@ impl ConstExpr {
     }
 
     /// Makes the expression `f64.const value`. Allocates nothing.
+    #[inline(always)]
     pub fn f64_const(alloc: Global, value: Ieee64) -> Result<ConstExpr, EncodeError>
         ensures makes { Makes (call (without_prefix 0x44) (operands.F64 value) ∷ []) result }
     {
@@ -176,6 +181,7 @@ impl ConstExpr {
     }
 
     /// Makes the expression `v128.const value`. Allocates nothing.
+    #[inline(always)]
     pub fn v128_const(alloc: Global, value: i128) -> Result<ConstExpr, EncodeError>
         ensures makes { Makes (call (after_fd 0x0c) (operands.V128 (v128 value)) ∷ []) result }
     {
@@ -187,6 +193,7 @@ impl ConstExpr {
     }
 
     /// Makes the expression `global.get index`, with a global index. Allocates nothing.
+    #[inline(always)]
     pub fn global_get(alloc: Global, index: u32) -> Result<ConstExpr, EncodeError>
         ensures makes { Makes (call (without_prefix 0x23) (operands.Index index) ∷ []) result }
     {
@@ -194,6 +201,7 @@ impl ConstExpr {
     }
 
     /// Makes the expression `ref.null ty`. Allocates nothing.
+    #[inline(always)]
     pub fn ref_null(alloc: Global, ty: HeapType) -> Result<ConstExpr, EncodeError>
         ensures makes { Makes (call (without_prefix 0xd0) (operands.Heap ty) ∷ []) result }
     {
@@ -201,6 +209,7 @@ impl ConstExpr {
     }
 
     /// Makes the expression `ref.func index`, with a function index. Allocates nothing.
+    #[inline(always)]
     pub fn ref_func(alloc: Global, index: u32) -> Result<ConstExpr, EncodeError>
         ensures makes { Makes (call (without_prefix 0xd2) (operands.Index index) ∷ []) result }
     {
@@ -208,6 +217,7 @@ impl ConstExpr {
     }
 
     /// Makes an expression of one instruction, which opens and closes no block. Allocates nothing.
+    #[inline(always)]
     #[tactic(auto)]
     fn of(alloc: Global, op: Opcode, immediates: Operands) -> Result<ConstExpr, EncodeError>
         requires call { IsCall op immediates }
@@ -220,6 +230,7 @@ impl ConstExpr {
     }
 
     /// Returns the instructions, without the final `end`.
+    #[inline(always)]
     pub fn as_slice(&self) -> &[Call]
         ensures value { result.now ≡ self.now }
         ensures closed { IsClosed self.now }

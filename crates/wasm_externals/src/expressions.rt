@@ -195,6 +195,7 @@ pub fn rewrite_expr(rewriter: &mut Rewriter) -> Result<(), Fault>
 /// Appends the instructions of an expression and the final `end`. Appends nothing if it fails.
 ///
 /// Fails with `TooLong` if a list in an instruction has more than 4,294,967,295 items.
+#[inline(always)]
 pub fn encode_expr<A: Allocator>(calls: &[Call], sink: &mut Vec<u8, A>) -> Result<(), EncodeError>
     ensures ok { OnOk result (sink.new.items ≡ sink.old.items ++ expr.bytes calls.now) }
     ensures can { OnOk result (IsCountedExpr calls.now) }
@@ -209,6 +210,7 @@ pub fn encode_expr<A: Allocator>(calls: &[Call], sink: &mut Vec<u8, A>) -> Resul
 }
 
 /// Appends the instructions of an expression and the final `end`. On error some of them may remain.
+#[inline(always)]
 fn append_expr<A: Allocator>(calls: &[Call], sink: &mut Vec<u8, A>) -> Result<(), EncodeError>
     ensures ok { OnOk result (sink.new.items ≡ sink.old.items ++ expr.bytes calls.now) }
     ensures can { OnOk result (IsCountedExpr calls.now) }

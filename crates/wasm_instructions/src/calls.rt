@@ -21,6 +21,7 @@ use wasm_types::types::put_heap_type;
 /// Appends the minimal encodings of `calls`, all of them or none.
 ///
 /// Fails with `TooLong` if a list in a call has more than 4,294,967,295 items, and with `Memory` if `bytes` can't grow.
+#[inline(always)]
 pub fn append_calls<A: Allocator>(bytes: &mut Vec<u8, A>, calls: &[Call]) -> Result<(), EncodeError>
     ensures ok { OnOk result (bytes.new.items ≡ bytes.old.items ++ instructions_bytes calls.now) }
     ensures err { OnErr result (bytes.new.items ≡ bytes.old.items) }
@@ -28,6 +29,19 @@ pub fn append_calls<A: Allocator>(bytes: &mut Vec<u8, A>, calls: &[Call]) -> Res
     ensures encodes { OnOk result (Instructions (instructions_bytes calls.now) calls.now) }
     ensures minimal { (bytes : List ℕ) → Instructions bytes calls.now →
         IsMinimalOrLonger bytes (instructions_bytes calls.now) }
+{
+    match calls {
+        [call] => append_call(bytes, call),
+        _ => append_all(bytes, calls),
+    }
+}
+
+/// Does the same for any number of calls. `append_calls` doesn't use it for one, whose kind the compiler often knows.
+fn append_all<A: Allocator>(bytes: &mut Vec<u8, A>, calls: &[Call]) -> Result<(), EncodeError>
+    ensures ok { OnOk result (bytes.new.items ≡ bytes.old.items ++ instructions_bytes calls.now) }
+    ensures err { OnErr result (bytes.new.items ≡ bytes.old.items) }
+    ensures refused { IfErr result (IsCallsRefusal calls.now) }
+    ensures encodes { OnOk result (Instructions (instructions_bytes calls.now) calls.now) }
 {
     let start = bytes.len();
     let appended = append_one_by_one(bytes, calls);
@@ -53,6 +67,7 @@ fn append_one_by_one<A: Allocator>(
 /// Appends the minimal encoding of `call`, or nothing.
 ///
 /// Fails with `TooLong` if a list has more than 4,294,967,295 items, and with `Memory` if `bytes` can't grow.
+#[inline(always)]
 #[tactic(auto, using(crate::proofs::CallLaws::encoded, crate::proofs::CallLaws::short_encoding))]
 pub fn append_call<A: Allocator>(bytes: &mut Vec<u8, A>, call: &Call) -> Result<(), EncodeError>
     ensures ok { OnOk result (bytes.new.items ≡ bytes.old.items ++ instruction.bytes call.now) }
@@ -69,6 +84,7 @@ pub fn append_call<A: Allocator>(bytes: &mut Vec<u8, A>, call: &Call) -> Result<
 }
 
 /// Appends the instruction `op` with `operands`, or nothing.
+#[inline(always)]
 #[tactic(auto, unfolding(crate::specs::Appending::before_bytes, crate::specs::Appending::after_bytes, crate::specs::formats::Instructions::instruction, crate::specs::formats::Instructions::operands_format))]
 fn append_operands<A: Allocator>(
     bytes: &mut Vec<u8, A>,
@@ -119,6 +135,7 @@ fn append_operands<A: Allocator>(
 }
 
 /// Writes operands without a list, up to 18 bytes, into reserved room.
+#[inline(always)]
 #[tactic(auto, unfolding(crate::specs::formats::Instructions::operands_format))]
 fn put_operands<A: Allocator>(bytes: &mut Vec<u8, A>, operands: &Operands)
     requires no_list { HasNoList operands.now }
