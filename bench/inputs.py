@@ -24,6 +24,7 @@ JSON = (HERE / "linked_json.wasm").read_bytes()[len(HEAD):]
 CUSTOM, TYPES, IMPORT, FUNCTIONS, GLOBAL, EXPORT, ELEMENT, CODE, DATA = 0, 1, 2, 3, 6, 7, 9, 10, 11
 
 FUNCTION_TYPE = bytes.fromhex("60 00 00")
+GC_TYPE = bytes.fromhex("50 01 00 5F 02 63 00 01 64 6E 00")  # of type 0, a structure of (mut (ref null 0)) and (ref any)
 END = b"\x0B"
 DROP = b"\x1A"
 I32_ADD = b"\x6A"
@@ -152,6 +153,7 @@ def kinds():
     yield "small_functions", *repeated(1200000, 1, LOCAL_GET_0, I32_CONST_1, I32_ADD)
     yield "types", types(1500000, bytes.fromhex("60 03 7F 7F 7E 01 7F")), 1500000, "entry"
     yield "padded_types", types(1000000, bytes.fromhex("60 83 00 7F 7F 7E 01 7F")), 1000000, "entry"
+    yield "gc_types", types(800000, GC_TYPE), 800000, "entry"
     yield "br_table", *br_tables(150000, range(64))
     yield "long_br_table", *br_tables(1200, [200] * 4000)
     yield "FB_and_FC", *repeated(4000, 200, *map(bytes.fromhex, [
@@ -213,6 +215,7 @@ def real_modules():
 # The normal forms of the kinds that plain_normaliser.rs doesn't know: it refuses 0xFB, and copies type sections.
 NORMAL = {
     "FB_and_FC": lambda sections: sections,
+    "gc_types": lambda sections: sections,
     "padded_types": lambda sections: types(1000000, bytes.fromhex("60 03 7F 7F 7E 01 7F")),
 }
 
