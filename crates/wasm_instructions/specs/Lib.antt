@@ -9,3 +9,4 @@ pub mod formats
 pub mod MemArgs
 pub mod Names
 pub mod PrefixFree
+pub mod ReadOperands

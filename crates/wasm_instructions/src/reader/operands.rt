@@ -7,6 +7,7 @@ ghost use Rattle.wasm_instructions.specs.formats.Operands.{block_type, ieee32, i
 ghost use Rattle.wasm_instructions.specs.declared.table.opcode.Kind.TheVariants as kinds;
 ghost use Rattle.wasm_instructions.specs.formats.Instructions.{operands_format};
 ghost use Rattle.wasm_instructions.specs.Instructions.{IsAligned, IsCounted, kind_of};
+ghost use Rattle.wasm_instructions.specs.ReadOperands.{ReadsOperands};
 
 use crate::operands::{
     BlockType, Ieee32, Ieee64, Lane, MemArg, V128, take_castop, take_mem_arg, take_ordering,
@@ -153,10 +154,7 @@ pub(crate) fn read_empty_block_type(cursor: &mut Cursor<'_>) -> Option<BlockType
 /// Reads two indexes.
 #[tactic(auto, unfolding(crate::specs::formats::Instructions::operands_format))]
 fn read_two_indexes(cursor: &mut Cursor<'_>) -> Result<Operands, Fault>
-    ensures reads { Reads (operands_format kinds.TwoIndexes).at cursor.old cursor.new result }
-    ensures kind { IfOk result (λ o. kind_of o ≡ kinds.TwoIndexes) }
-    ensures aligned { IfOk result (λ o. IsAligned o) }
-    ensures counted { IfOk result (λ o. IsCounted o) }
+    ensures reads { ReadsOperands kinds.TwoIndexes cursor.old cursor.new result }
 {
     let first = cursor.u32()?;
     let second = cursor.u32()?;
@@ -166,10 +164,7 @@ fn read_two_indexes(cursor: &mut Cursor<'_>) -> Result<Operands, Fault>
 /// Reads the labels and the default label of a `br_table`.
 #[tactic(auto, unfolding(crate::specs::formats::Instructions::operands_format))]
 fn read_br_table(alloc: Global, cursor: &mut Cursor<'_>) -> Result<Operands, Fault>
-    ensures reads { Reads (operands_format kinds.BrTable).at cursor.old cursor.new result }
-    ensures kind { IfOk result (λ o. kind_of o ≡ kinds.BrTable) }
-    ensures aligned { IfOk result (λ o. IsAligned o) }
-    ensures counted { IfOk result (λ o. IsCounted o) }
+    ensures reads { ReadsOperands kinds.BrTable cursor.old cursor.new result }
 {
     let labels = read_list(alloc, cursor)?;
     let default = cursor.u32()?;
@@ -179,10 +174,7 @@ fn read_br_table(alloc: Global, cursor: &mut Cursor<'_>) -> Result<Operands, Fau
 /// Reads the block type and the clauses of a `try_table`.
 #[tactic(auto, unfolding(crate::specs::formats::Instructions::operands_format))]
 fn read_try_table(alloc: Global, cursor: &mut Cursor<'_>) -> Result<Operands, Fault>
-    ensures reads { Reads (operands_format kinds.TryTable).at cursor.old cursor.new result }
-    ensures kind { IfOk result (λ o. kind_of o ≡ kinds.TryTable) }
-    ensures aligned { IfOk result (λ o. IsAligned o) }
-    ensures counted { IfOk result (λ o. IsCounted o) }
+    ensures reads { ReadsOperands kinds.TryTable cursor.old cursor.new result }
 {
     let ty = take_block_type(cursor)?;
     let Ok(clauses) = BoxedItems::new(read_list(alloc, cursor)?) else {
@@ -194,10 +186,7 @@ fn read_try_table(alloc: Global, cursor: &mut Cursor<'_>) -> Result<Operands, Fa
 /// Reads an index and the clauses of a `resume`.
 #[tactic(auto, unfolding(crate::specs::formats::Instructions::operands_format))]
 fn read_resume(alloc: Global, cursor: &mut Cursor<'_>) -> Result<Operands, Fault>
-    ensures reads { Reads (operands_format kinds.Resume).at cursor.old cursor.new result }
-    ensures kind { IfOk result (λ o. kind_of o ≡ kinds.Resume) }
-    ensures aligned { IfOk result (λ o. IsAligned o) }
-    ensures counted { IfOk result (λ o. IsCounted o) }
+    ensures reads { ReadsOperands kinds.Resume cursor.old cursor.new result }
 {
     let index = cursor.u32()?;
     let handlers = read_list(alloc, cursor)?;
@@ -207,10 +196,7 @@ fn read_resume(alloc: Global, cursor: &mut Cursor<'_>) -> Result<Operands, Fault
 /// Reads two indexes and the clauses of a `resume_throw`.
 #[tactic(auto, unfolding(crate::specs::formats::Instructions::operands_format))]
 fn read_resume_throw(alloc: Global, cursor: &mut Cursor<'_>) -> Result<Operands, Fault>
-    ensures reads { Reads (operands_format kinds.ResumeThrow).at cursor.old cursor.new result }
-    ensures kind { IfOk result (λ o. kind_of o ≡ kinds.ResumeThrow) }
-    ensures aligned { IfOk result (λ o. IsAligned o) }
-    ensures counted { IfOk result (λ o. IsCounted o) }
+    ensures reads { ReadsOperands kinds.ResumeThrow cursor.old cursor.new result }
 {
     let index = cursor.u32()?;
     let tag = cursor.u32()?;
@@ -221,10 +207,7 @@ fn read_resume_throw(alloc: Global, cursor: &mut Cursor<'_>) -> Result<Operands,
 /// Reads a memory argument and a lane index.
 #[tactic(auto, unfolding(crate::specs::formats::Instructions::operands_format))]
 fn read_mem_lane(cursor: &mut Cursor<'_>) -> Result<Operands, Fault>
-    ensures reads { Reads (operands_format kinds.MemLane).at cursor.old cursor.new result }
-    ensures kind { IfOk result (λ o. kind_of o ≡ kinds.MemLane) }
-    ensures aligned { IfOk result (λ o. IsAligned o) }
-    ensures counted { IfOk result (λ o. IsCounted o) }
+    ensures reads { ReadsOperands kinds.MemLane cursor.old cursor.new result }
 {
     let arg = take_mem_arg(cursor)?;
     let lane = cursor.byte()?;
@@ -234,10 +217,7 @@ fn read_mem_lane(cursor: &mut Cursor<'_>) -> Result<Operands, Fault>
 /// Reads an ordering and an index.
 #[tactic(auto, unfolding(crate::specs::formats::Instructions::operands_format))]
 fn read_order_index(cursor: &mut Cursor<'_>) -> Result<Operands, Fault>
-    ensures reads { Reads (operands_format kinds.OrderIndex).at cursor.old cursor.new result }
-    ensures kind { IfOk result (λ o. kind_of o ≡ kinds.OrderIndex) }
-    ensures aligned { IfOk result (λ o. IsAligned o) }
-    ensures counted { IfOk result (λ o. IsCounted o) }
+    ensures reads { ReadsOperands kinds.OrderIndex cursor.old cursor.new result }
 {
     let ordering = take_ordering(cursor)?;
     let index = cursor.u32()?;
@@ -247,10 +227,7 @@ fn read_order_index(cursor: &mut Cursor<'_>) -> Result<Operands, Fault>
 /// Reads an ordering and two indexes.
 #[tactic(auto, unfolding(crate::specs::formats::Instructions::operands_format))]
 fn read_order_two_indexes(cursor: &mut Cursor<'_>) -> Result<Operands, Fault>
-    ensures reads { Reads (operands_format kinds.OrderTwoIndexes).at cursor.old cursor.new result }
-    ensures kind { IfOk result (λ o. kind_of o ≡ kinds.OrderTwoIndexes) }
-    ensures aligned { IfOk result (λ o. IsAligned o) }
-    ensures counted { IfOk result (λ o. IsCounted o) }
+    ensures reads { ReadsOperands kinds.OrderTwoIndexes cursor.old cursor.new result }
 {
     let ordering = take_ordering(cursor)?;
     let first = cursor.u32()?;
@@ -261,10 +238,7 @@ fn read_order_two_indexes(cursor: &mut Cursor<'_>) -> Result<Operands, Fault>
 /// Reads the operands of a branch on a cast: flags, a label and two heap types.
 #[tactic(auto, unfolding(crate::specs::formats::Instructions::operands_format))]
 fn read_cast(cursor: &mut Cursor<'_>) -> Result<Operands, Fault>
-    ensures reads { Reads (operands_format kinds.Cast).at cursor.old cursor.new result }
-    ensures kind { IfOk result (λ o. kind_of o ≡ kinds.Cast) }
-    ensures aligned { IfOk result (λ o. IsAligned o) }
-    ensures counted { IfOk result (λ o. IsCounted o) }
+    ensures reads { ReadsOperands kinds.Cast cursor.old cursor.new result }
 {
     let (before_nullable, after_nullable) = take_castop(cursor)?;
     let label = cursor.u32()?;
