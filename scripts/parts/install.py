@@ -140,7 +140,7 @@ def try_programs(it):
     for name in PROGRAMS:
         file = it.prefix / "bin" / name
         told = run_command(file, "--version").stdout
-        version = told.decode().partition(", written for ")[0].strip()  # wasmcanon also names the kit
+        version = told.decode().partition(", written for ")[0].strip()  # wasmcanon also names the logic
         it.report.check(f"{name} --version", version == f"{name} {VERSION}", told)
         it.answers(f"{name} --help", [file, "--help"], f"{help_of(name)}\n".encode())
         page = it.prefix / "share/man/man1" / f"{name}.1"

@@ -3,7 +3,7 @@ use clap::{Arg, ArgAction, ArgGroup, Command};
 use std::alloc::{AllocError, Global};
 
 /// The version, and the kit that proves it.
-const VERSION: &str = "0.1.0, written for rattle-kit-13f logic dac8208d650f15bf";
+const VERSION: &str = "0.1.0, written for logic dac8208d650f15bf";
 
 /// The usage lines, for errors.
 pub const USAGE: &str = "\

@@ -19,6 +19,7 @@ pub mod SizedLaws
 pub mod Windows
 pub mod Shortening
 pub mod ScannedNumbers
+pub mod ScanLaws
 pub mod RewriterLaws
 pub mod InputLaws
 pub mod BodyRewriting

@@ -8,12 +8,12 @@ use Rattle.wasm_codec.specs.Scanning.{Scans}
 use Rattle.wasm_codec.specs.declared.rewriter.scan.Scanned.TheVariants.{Minimal}
 use Rattle.wasm_codec.specs.formats.Combinators.{u32, ◌⊗◌}
 use Rattle.wasm_codec.proofs.NumberReading.{u32_one}
+use Rattle.wasm_codec.proofs.ScanLaws.{get_dropped, made_scanned, pair_scanned}
 use Rattle.wasm_types.specs.formats.Types.{val_type}
 use Rattle.wasm_types.proofs.ScannedTypes.{IsWhole}
 use Rattle.wasm_instructions.specs.formats.Instructions.{opcode, operands_format, instruction}
 use Rattle.wasm_instructions.specs.formats.Opcodes.{ranges}
-use Rattle.wasm_instructions.proofs.ScannedCalls.{made_scanned}
-use Rattle.wasm_instructions.proofs.ScannedPrefixed.{AreOnes, get_dropped, pair_scanned}
+use Rattle.wasm_instructions.proofs.ScannedPrefixed.{AreOnes}
 use Rattle.wasm_externals.specs.declared.types.EntityType.TheVariants as entities
 use Rattle.wasm_externals.specs.formats.PartCombinators.{goes_on}
 use Rattle.wasm_externals.specs.formats.Names.{name}

@@ -8,6 +8,7 @@ use Rattle.wasm_codec.specs.Scanning.{IsWithin, Scans, behind_byte}
 use Rattle.wasm_codec.specs.declared.rewriter.scan.Scanned.{Scanned}
 use Rattle.wasm_codec.specs.declared.rewriter.scan.Scanned.TheVariants as scanned
 use Rattle.wasm_codec.specs.Leb128.{unsigned_leb128}
+use Rattle.wasm_codec.proofs.ScanLaws.{made_scanned}
 use Rattle.wasm_instructions.proofs.CallRewriting.{of_kind}
 use Rattle.wasm_instructions.proofs.OperandFormatLaws.{one_digit}
 use Rattle.wasm_codec.specs.formats.Combinators.{Format, made, u32, u64, little_endian, with_low}
@@ -27,12 +28,6 @@ use Rattle.wasm_instructions.specs.formats.Opcodes.{without_prefix}
 use Rattle.wasm_instructions.specs.formats.Instructions.{opcode, operands_format, instruction}
 use Rattle.wasm_instructions.specs.OperandParts.{index_part}
 use Rattle.wasm_instructions.specs.formats.Operands.{block_type, in_memory, mem_arg}
-
-pub made_scanned : {A B : Type 0} (make : A → B) (parts : B → Option A) (F : Format A) → ((a : A) → parts (make a) ≡ Some a) → (bytes : List ℕ) (r : Option Scanned) → Scans F bytes r → Scans (made make parts F) bytes r
-made_scanned make parts F back bytes None b = tt
-made_scanned make parts F back bytes (Some (scanned.Minimal count)) (le, x) = (le, (make x.0, rw x.1 refl))
-made_scanned make parts F back bytes (Some (scanned.Padded signed start more)) (le, told) =
-    (le, λ kept k. let p = told kept k in record { value = make p.value; read = rw p.read refl; minimal = rw (back p.value) p.minimal })
 
 -- the operands of the most frequent kinds
 pub none_scanned : (bytes : List ℕ) → Scans (operands_format kinds.None) bytes (Some (scanned.Minimal 0))

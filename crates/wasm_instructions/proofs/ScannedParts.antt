@@ -7,6 +7,7 @@ use Rattle.wasm_codec.specs.Scanning.{BeginsItems, ReadsShort, Scans}
 use Rattle.wasm_codec.specs.declared.rewriter.scan.Scanned.TheVariants.{Minimal}
 use Rattle.wasm_codec.specs.formats.Combinators.{Format, a_byte, ◌⊗◌, begins_index, index, items, little_endian, u32, u64}
 use Rattle.wasm_codec.proofs.NumberReading.{u32_one}
+use Rattle.wasm_codec.proofs.ScanLaws.{made_scanned, pair_scanned}
 use Rattle.wasm_types.specs.formats.Types.{heap_type, val_type}
 use Rattle.wasm_types.proofs.ScannedValTypes.{begins, no_index}
 use Rattle.wasm_instructions.specs.declared.operands.control.BlockType.TheVariants as blocks
@@ -17,8 +18,7 @@ use Rattle.wasm_instructions.specs.declared.table.opcode.Kind.TheVariants as kin
 use Rattle.wasm_instructions.specs.OperandParts.{cast_part, halves_part, mem_lane_part, try_table_part}
 use Rattle.wasm_instructions.specs.formats.Instructions.{cast_of, operands_format}
 use Rattle.wasm_instructions.specs.formats.Operands.{block_type, castop, catch_clause, from_halves, in_memory, lanes, mem_arg, ordering, vector}
-use Rattle.wasm_instructions.proofs.ScannedCalls.{made_scanned, number_scanned}
-use Rattle.wasm_instructions.proofs.ScannedPrefixed.{pair_scanned}
+use Rattle.wasm_instructions.proofs.ScannedCalls.{number_scanned}
 
 -- ---- lists of one type
 

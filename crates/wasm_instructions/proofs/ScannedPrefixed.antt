@@ -9,6 +9,7 @@ use Rattle.wasm_codec.specs.Scanning.{Scans}
 use Rattle.wasm_codec.specs.declared.rewriter.scan.Scanned.TheVariants.{Minimal}
 use Rattle.wasm_codec.specs.formats.Combinators.{Format, ◌⊗◌, made, items, u32}
 use Rattle.wasm_codec.proofs.NumberReading.{u32_one}
+use Rattle.wasm_codec.proofs.ScanLaws.{get_dropped, made_scanned, pair_scanned}
 use Rattle.wasm_instructions.specs.declared.table.opcode.Opcode.{Opcode}
 use Rattle.wasm_instructions.specs.declared.table.opcode.Kind.{Kind}
 use Rattle.wasm_instructions.specs.declared.table.opcode.Kind.TheVariants as kinds
@@ -17,14 +18,7 @@ use Rattle.wasm_instructions.specs.OperandParts.{two_indexes_part, br_table_part
 use Rattle.wasm_instructions.specs.formats.Instructions.{call, opcode, operands_format, instruction}
 use Rattle.wasm_instructions.specs.formats.Opcodes.{without_prefix, after_fb, after_fc, after_fd, after_fe, opcode_kind}
 use Rattle.wasm_instructions.specs.ScannedOpcodes.{HasOpcode, IsKindAfter}
-use Rattle.wasm_instructions.proofs.ScannedCalls.{made_scanned, one_byte}
-
--- ---- one after the other
-
-pub pair_scanned : {A B : Type 0} (F : Format A) (G : Format B) (bytes : List ℕ) (m n : ℕ) → Scans F bytes (Some (Minimal m)) → Scans G (drop m bytes) (Some (Minimal n)) → Scans (F ⊗ G) bytes (Some (Minimal (m + n)))
-pair_scanned F G bytes m n a b =
-    let left : drop n (drop m bytes) ≡ drop (m + n) bytes = drop-drop n m bytes in
-    (omega (arith, a.0, b.0, length-drop m bytes), ((a.1.0, b.1.0), rw (a.1.1, b.1.1, left) refl))
+use Rattle.wasm_instructions.proofs.ScannedCalls.{one_byte}
 
 -- ---- opcodes
 
@@ -149,11 +143,6 @@ ones_split (suc count) (b ∷ bytes) lt all =
 one_u32 : (bytes : List ℕ) → 0 < length bytes → get_or bytes 0 0 < 128 → Scans u32 bytes (Some (Minimal 1))
 one_u32 [] some lt = absurd (omega (arith, some))
 one_u32 (b ∷ bytes) some lt = (omega arith, (b, u32_one (place true (b ∷ bytes)) (place true bytes) b lt refl))
-
-pub get_dropped : (count : ℕ) (bytes : List ℕ) → get_or (drop count bytes) 0 0 ≡ get_or bytes count 0
-get_dropped zero bytes = refl
-get_dropped (suc count) [] = refl
-get_dropped (suc count) (b ∷ bytes) = get_dropped count bytes
 
 behind_count : (count : ℕ) (bytes : List ℕ) → count < 128 → count < length bytes → AreOnes (take (suc count) bytes) → Scans (operands_format kinds.BrTable) (count ∷ bytes) (Some (Minimal (1 + count + 1)))
 unfolding operands_format

@@ -7,8 +7,7 @@ use Rattle.wasm_codec.specs.declared.rewriter.scan.Scanned.TheVariants.{Minimal}
 use Rattle.wasm_codec.specs.formats.Bodies.{byte_list}
 use Rattle.wasm_codec.specs.formats.Combinators.{Format, u32, ◌⊗◌}
 use Rattle.wasm_codec.proofs.NumberReading.{u32_one}
-use Rattle.wasm_instructions.proofs.ScannedCalls.{made_scanned}
-use Rattle.wasm_instructions.proofs.ScannedPrefixed.{pair_scanned}
+use Rattle.wasm_codec.proofs.ScanLaws.{made_scanned, pair_scanned}
 use Rattle.wasm_externals.specs.declared.types.ExportKind.TheVariants as kinds
 use Rattle.wasm_externals.specs.formats.Names.{name}
 use Rattle.wasm_externals.specs.formats.Expressions.{expr}

@@ -4,3 +4,4 @@ pub mod FinalTypes
 pub mod ScannedTypes
 pub mod ScannedValTypes
 pub mod ShortTypes
+pub mod ScannedFields

@@ -1,12 +1,11 @@
 -- Function types that are seen at once to be in their minimal encodings.
-use Rattle.std.proofs.Common.{◌≡◌, ◌⊎◌, ℕ, zero, suc, ◌+◌, ◌-◌, ◌<◌, ◌≤◌, true, false, List, [], ◌∷◌, ◌++◌, length, get_or, take, take_all, drop, drop-drop, length-drop, Some, None, refl, sym, subst, inl, inr, arith}
+use Rattle.std.proofs.Common.{◌≡◌, ◌⊎◌, ℕ, zero, suc, ◌+◌, ◌-◌, ◌<◌, ◌≤◌, true, false, List, [], ◌∷◌, ◌++◌, length, get_or, take, drop, drop-drop, length-drop, Some, None, refl, sym, subst, inl, inr, arith}
 use Rattle.std.specs.List.{AllByRecursion}
 use Rattle.std.proofs.lemmas.List.{take_more}
 use Rattle.std.proofs.lemmas.Bool.{cases_lt}
 use Rattle.wasm_codec.specs.Places.{place, byte_at, times_at}
 use Rattle.wasm_codec.specs.Scanning.{Scans}
 use Rattle.wasm_codec.specs.declared.rewriter.scan.Scanned.TheVariants.{Minimal}
-use Rattle.wasm_codec.specs.formats.Combinators.{Format}
 use Rattle.wasm_codec.proofs.NumberReading.{u32_one}
 use Rattle.wasm_types.specs.declared.types.heap.AbstractHeapType.{AbstractHeapType}
 use Rattle.wasm_types.specs.declared.types.heap.AbstractHeapType.TheVariants as abstracts
@@ -109,10 +108,6 @@ result_scanned (first ∷ bytes) count some is lt within all =
     subst (λ (n : ℕ). Scans result_type (n ∷ bytes) (Some (Minimal (1 + count)))) (sym is) (behind_count count bytes lt (omega (arith, within)) all)
 
 -- ---- function types
-
--- the bytes from a start on
-pub from_start : {V : Type 0} (F : Format V) (bytes : List ℕ) (start count : ℕ) → Scans F (take (length bytes - start) (drop start bytes)) (Some (Minimal count)) → Scans F (drop start bytes) (Some (Minimal count))
-from_start F bytes start count r = subst (λ (l : List ℕ). Scans F l (Some (Minimal count))) (take_all (length bytes - start) (drop start bytes) (omega (arith, length-drop start bytes))) r
 
 behind_function : (bytes : List ℕ) (params results : ℕ) → Scans result_type bytes (Some (Minimal params)) → Scans result_type (drop params bytes) (Some (Minimal results)) → Scans recursive_type (0x60 ∷ bytes) (Some (Minimal (1 + params + results)))
 unfolding recursive_type sub_type composite_type inner_type byte_at

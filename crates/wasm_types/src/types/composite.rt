@@ -1,11 +1,13 @@
 //! Composite types: types of fields, structures, arrays, functions and continuations (Core 3.0, Composite Types).
 ghost use Rattle.std.specs.Iterator.{Drains, IsFinite};
-ghost use Rattle.std.specs.Prelude.{◌≡◌, ◌++◌, ◌+◌, ◌≤◌, IfErr, IfOk, OnOk, length, take, vec_len, vec_capacity};
+ghost use Rattle.std.specs.Prelude.{◌≡◌, ◌++◌, ◌+◌, ◌≤◌, IfErr, IfOk, IfSome, OnOk, Some, length, take, vec_len, vec_capacity};
 ghost use Rattle.wasm_codec.specs.Encoding.{IsRefusal, IsMinimal, OnlyTooLong};
 ghost use Rattle.wasm_codec.specs.Inputs.{Takes};
 ghost use Rattle.wasm_codec.specs.Places.{Reads};
 ghost use Rattle.wasm_codec.specs.Rewriter.{Rewrites};
+ghost use Rattle.wasm_codec.specs.Scanning.{Scans};
 ghost use Rattle.wasm_codec.specs.declared.encode.EncodeError.TheVariants.{Memory};
+ghost use Rattle.wasm_codec.specs.declared.rewriter.scan.Scanned.TheVariants.{Minimal};
 ghost use Rattle.wasm_codec.specs.formats.Combinators.{optional, u32};
 ghost use Rattle.wasm_lists.specs.Iterators.{OfIterator};
 ghost use Rattle.wasm_types.specs.TypeCounts.{CountedComposite, CountedFunc, CountedInner, CountedStruct};
@@ -13,7 +15,9 @@ ghost use Rattle.wasm_types.specs.TypeRanges.{StorageTypeFits};
 ghost use Rattle.wasm_types.specs.declared.types.composite.CompositeInnerType.TheVariants as inner;
 ghost use Rattle.wasm_types.specs.formats.Types.{composite_type, field_type, inner_type};
 
-use crate::types::value::{StorageType, ValType, put_storage_type, take_storage_type};
+use crate::types::value::{
+    StorageType, ValType, put_storage_type, scan_storage_type, take_storage_type,
+};
 use std::alloc::{Allocator, Global};
 use wasm_codec::encode::leb128::{put_index, put_u32};
 use wasm_codec::encode::{EncodeError, keep_or_undo};
@@ -177,6 +181,23 @@ pub(crate) fn take_field_type<I: Input>(input: &mut I) -> Result<FieldType, Faul
         element_type,
         mutable,
     })
+}
+
+/// Returns the length in bytes of the field type that the bytes begin with. Returns `None` unless it is minimally encoded
+/// and its storage type can be scanned.
+#[inline(always)]
+#[tactic(auto, using(crate::proofs::ScannedFields::field_scanned))]
+pub(crate) fn scan_field_type(bytes: &[u8]) -> Option<usize>
+    ensures { IfSome result (λ count. Scans field_type bytes.now (Some (Minimal count))) }
+{
+    let storage = scan_storage_type(bytes)?;
+    if storage >= bytes.len() {
+        return None;
+    }
+    if bytes[storage] >= 2 {
+        return None;
+    }
+    Some(storage + 1)
 }
 
 /// Reads a function, structure, array or continuation type.

@@ -9,15 +9,15 @@ ghost use Rattle.wasm_types.specs.declared.types.recursive.TypeEntry.{TypeEntry}
 ghost use Rattle.wasm_types.specs.declared.types.value.ValType.{ValType};
 ghost use Rattle.wasm_types.specs.formats.Types.{field_type, recursive_type, sub_type, val_type};
 
-use crate::types::composite::{FieldType, take_field_type};
+use crate::types::composite::{FieldType, scan_field_type, take_field_type};
 use crate::types::function::scan_function_type;
 use crate::types::recursive::{
     SubType, TypeEntry, read_entry, read_sub_type, rewrite_entry, rewrite_sub_type,
 };
-use crate::types::value::{ValType, take_val_type};
+use crate::types::value::{ValType, scan_val_type, take_val_type};
 use std::alloc::Global;
 use wasm_codec::reader::cursor::{Cursor, Fault};
-use wasm_codec::rewriter::Rewriter;
+use wasm_codec::rewriter::{Rewriter, Scanned};
 use wasm_lists::readable::Readable;
 use wasm_lists::rewriting::Rewritable;
 
@@ -44,7 +44,13 @@ impl<'a> Readable<'a> for ValType {
     #[tactic(auto, using(crate::proofs::TypeFormatLaws::type_laws))]
     fn is_lawful() {}
 
+    #[inline(always)]
     fn rewrite(rewriter: &mut Rewriter) -> Result<(), Fault> {
+        rewriter.are_bytes();
+        if let Some(count) = scan_val_type(rewriter.left()) {
+            rewriter.rewrite_scanned(Scanned::Minimal(count));
+            return Ok(());
+        }
         take_val_type(rewriter)?;
         Ok(())
     }
@@ -73,7 +79,13 @@ impl<'a> Readable<'a> for FieldType {
     #[tactic(auto, using(crate::proofs::TypeFormatLaws::type_laws))]
     fn is_lawful() {}
 
+    #[inline(always)]
     fn rewrite(rewriter: &mut Rewriter) -> Result<(), Fault> {
+        rewriter.are_bytes();
+        if let Some(count) = scan_field_type(rewriter.left()) {
+            rewriter.rewrite_scanned(Scanned::Minimal(count));
+            return Ok(());
+        }
         take_field_type(rewriter)?;
         Ok(())
     }

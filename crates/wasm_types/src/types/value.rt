@@ -289,3 +289,22 @@ pub fn scan_val_type(bytes: &[u8]) -> Option<usize>
         _ => None,
     }
 }
+
+/// Returns the length in bytes of the storage type that the bytes begin with. Returns `None` unless it is a packed type, or
+/// a value type that can be scanned.
+#[inline(always)]
+#[tactic(auto, using(crate::proofs::ScannedFields::i8_found, crate::proofs::ScannedFields::i16_found, crate::proofs::ScannedFields::value_found))]
+pub(crate) fn scan_storage_type(bytes: &[u8]) -> Option<usize>
+    ensures { IfSome result (λ count. Scans storage_type bytes.now (Some (Minimal count))) }
+{
+    if bytes.len() == 0 {
+        return None;
+    }
+    if bytes[0] == 0x77 {
+        return Some(1);
+    }
+    if bytes[0] == 0x78 {
+        return Some(1);
+    }
+    scan_val_type(bytes)
+}

@@ -1,7 +1,7 @@
 use Rattle.std.proofs.Common.{Some, take, drop, ◌-◌, length, subst, arith}
 use Rattle.wasm_codec.specs.Scanning.{Scans}
 use Rattle.wasm_codec.specs.formats.Combinators.{u32}
-use Rattle.wasm_types.proofs.ScannedTypes.{from_start}
+use Rattle.wasm_codec.proofs.ScanLaws.{from_start}
 use Rattle.wasm_externals.specs.formats.Externals.{global_type}
 use Rattle.wasm_externals.proofs.ScannedEntities.{function_scanned, global_scanned}
 use Rattle.wasm_externals.proofs.types.scan_entity_type.Goals as goal

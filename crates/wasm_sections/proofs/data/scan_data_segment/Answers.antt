@@ -1,6 +1,6 @@
 use Rattle.std.proofs.Common.{◌+◌, arith}
 use Rattle.wasm_codec.specs.formats.Bodies.{byte_list}
-use Rattle.wasm_types.proofs.ScannedTypes.{from_start}
+use Rattle.wasm_codec.proofs.ScanLaws.{from_start}
 use Rattle.wasm_externals.specs.formats.Expressions.{expr}
 use Rattle.wasm_sections.proofs.ScannedEntries.{active_scanned, passive_scanned}
 use Rattle.wasm_sections.proofs.data.scan_data_segment.Goals as goal

@@ -1,7 +1,7 @@
 use Rattle.std.proofs.Common.{Some, ◌+◌, ◌-◌, length, take, drop, subst, arith}
 use Rattle.wasm_codec.specs.Scanning.{Scans}
 use Rattle.wasm_codec.specs.formats.Combinators.{u32}
-use Rattle.wasm_types.proofs.ScannedTypes.{from_start}
+use Rattle.wasm_codec.proofs.ScanLaws.{from_start}
 use Rattle.wasm_sections.proofs.ScannedEntries.{export_scanned}
 use Rattle.wasm_sections.proofs.exports.scan_export.Goals as goal
 

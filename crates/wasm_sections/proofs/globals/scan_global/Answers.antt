@@ -1,4 +1,4 @@
-use Rattle.wasm_types.proofs.ScannedTypes.{from_start}
+use Rattle.wasm_codec.proofs.ScanLaws.{from_start}
 use Rattle.wasm_externals.specs.formats.Expressions.{expr}
 use Rattle.wasm_sections.proofs.ScannedEntries.{global_scanned}
 use Rattle.wasm_sections.proofs.globals.scan_global.Goals as goal

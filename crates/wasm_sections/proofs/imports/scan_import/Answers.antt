@@ -1,5 +1,5 @@
 use Rattle.std.proofs.Common.{◌+◌}
-use Rattle.wasm_types.proofs.ScannedTypes.{from_start}
+use Rattle.wasm_codec.proofs.ScanLaws.{from_start}
 use Rattle.wasm_externals.specs.formats.Names.{name}
 use Rattle.wasm_externals.specs.formats.Externals.{entity_type}
 use Rattle.wasm_sections.proofs.ScannedEntries.{import_scanned}

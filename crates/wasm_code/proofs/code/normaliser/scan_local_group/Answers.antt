@@ -2,9 +2,8 @@ use Rattle.std.proofs.Common.{Some}
 use Rattle.wasm_codec.specs.Scanning.{Scans}
 use Rattle.wasm_codec.specs.declared.rewriter.scan.Scanned.TheVariants.{Minimal}
 use Rattle.wasm_codec.specs.formats.Combinators.{u32}
+use Rattle.wasm_codec.proofs.ScanLaws.{from_start, pair_scanned}
 use Rattle.wasm_types.specs.formats.Types.{val_type}
-use Rattle.wasm_types.proofs.ScannedTypes.{from_start}
-use Rattle.wasm_instructions.proofs.ScannedPrefixed.{pair_scanned}
 use Rattle.wasm_code.proofs.code.normaliser.scan_local_group.Goals as goal
 
 pub returns : goal.returns

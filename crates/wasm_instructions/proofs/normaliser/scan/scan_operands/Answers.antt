@@ -1,10 +1,10 @@
 use Rattle.std.proofs.Common.{refl}
+use Rattle.wasm_codec.proofs.ScanLaws.{made_scanned}
 use Rattle.wasm_instructions.specs.formats.Instructions.{operands_format}
 use Rattle.wasm_instructions.specs.OperandParts.{block_part, mem_part, i32_part, i64_part, f32_part, f64_part}
 use Rattle.wasm_instructions.specs.formats.Operands.{block_type, mem_arg}
 use Rattle.wasm_codec.specs.formats.Combinators.{s32, s64, little_endian}
 use Rattle.wasm_instructions.specs.formats.Operands.{ieee32, ieee64}
-use Rattle.wasm_instructions.proofs.ScannedCalls.{made_scanned}
 use Rattle.wasm_instructions.specs.declared.table.call.Operands.TheVariants as operands
 use Rattle.wasm_instructions.proofs.normaliser.scan.scan_operands.Goals as goal
 

@@ -1,6 +1,7 @@
 use Rattle.std.proofs.Common.{◌+◌, arith}
+use Rattle.wasm_codec.proofs.ScanLaws.{from_start}
 use Rattle.wasm_types.specs.formats.Types.{result_type}
-use Rattle.wasm_types.proofs.ScannedTypes.{from_start, function_scanned}
+use Rattle.wasm_types.proofs.ScannedTypes.{function_scanned}
 use Rattle.wasm_types.proofs.types.function.scan_function_type.Goals as goal
 
 pub returns : goal.returns

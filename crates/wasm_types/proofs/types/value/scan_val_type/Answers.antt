@@ -1,7 +1,7 @@
 use Rattle.std.proofs.Common.{arith}
 use Rattle.wasm_codec.specs.formats.Combinators.{index}
+use Rattle.wasm_codec.proofs.ScanLaws.{from_start}
 use Rattle.wasm_types.specs.formats.Types.{heap_type}
-use Rattle.wasm_types.proofs.ScannedTypes.{from_start}
 use Rattle.wasm_types.proofs.ScannedValTypes.{nullable_scanned, bare_scanned}
 use Rattle.wasm_types.proofs.types.value.scan_val_type.Goals as goal
 

@@ -1,6 +1,6 @@
 use Rattle.std.proofs.Common.{arith}
 use Rattle.wasm_codec.specs.formats.Combinators.{u64}
-use Rattle.wasm_types.proofs.ScannedTypes.{from_start}
+use Rattle.wasm_codec.proofs.ScanLaws.{from_start}
 use Rattle.wasm_instructions.proofs.ScannedParts.{named_scanned}
 use Rattle.wasm_instructions.proofs.normaliser.scan.parts.scan_any_mem_arg.Goals as goal
 

@@ -1,6 +1,6 @@
 use Rattle.std.proofs.Common.{◌+◌, arith}
 use Rattle.wasm_codec.specs.formats.Combinators.{u32}
-use Rattle.wasm_types.proofs.ScannedTypes.{from_start}
+use Rattle.wasm_codec.proofs.ScanLaws.{from_start}
 use Rattle.wasm_instructions.proofs.ScannedParts.{pair_clause_scanned, all_clause_scanned}
 use Rattle.wasm_instructions.proofs.normaliser.scan.parts.scan_clause.Goals as goal
 

@@ -1,7 +1,7 @@
 use Rattle.std.proofs.Common.{◌≡◌, ◌-◌, length, slice_index_or, take, drop, length-drop, refl, arith}
 use Rattle.std.proofs.lemmas.List.{take_all}
+use Rattle.wasm_codec.proofs.ScanLaws.{from_start}
 use Rattle.wasm_codec.proofs.Skipping.{run_scanned}
-use Rattle.wasm_types.proofs.ScannedTypes.{from_start}
 use Rattle.wasm_instructions.specs.formats.Operands.{catch_clause}
 use Rattle.wasm_instructions.proofs.ScannedParts.{items_scanned}
 use Rattle.wasm_instructions.proofs.normaliser.scan.parts.scan_clauses.Goals as goal

@@ -1,6 +1,6 @@
 use Rattle.std.proofs.Common.{arith}
+use Rattle.wasm_codec.proofs.ScanLaws.{from_start}
 use Rattle.wasm_types.specs.formats.Types.{val_type}
-use Rattle.wasm_types.proofs.ScannedTypes.{from_start}
 use Rattle.wasm_instructions.proofs.ScannedParts.{one_type_scanned}
 use Rattle.wasm_instructions.proofs.normaliser.scan.parts.scan_one_type.Goals as goal
 

@@ -1,7 +1,7 @@
 use Rattle.std.proofs.Common.{◌+◌}
 use Rattle.wasm_codec.specs.formats.Combinators.{u32}
+use Rattle.wasm_codec.proofs.ScanLaws.{from_start}
 use Rattle.wasm_types.specs.formats.Types.{heap_type}
-use Rattle.wasm_types.proofs.ScannedTypes.{from_start}
 use Rattle.wasm_instructions.proofs.ScannedParts.{cast_scanned}
 use Rattle.wasm_instructions.proofs.normaliser.scan.prefixed.scan_cast.Goals as goal
 

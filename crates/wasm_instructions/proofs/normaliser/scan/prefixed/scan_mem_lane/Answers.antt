@@ -1,5 +1,5 @@
 use Rattle.wasm_codec.specs.formats.Combinators.{a_byte}
-use Rattle.wasm_types.proofs.ScannedTypes.{from_start}
+use Rattle.wasm_codec.proofs.ScanLaws.{from_start}
 use Rattle.wasm_instructions.proofs.ScannedParts.{mem_lane_scanned}
 use Rattle.wasm_instructions.proofs.normaliser.scan.prefixed.scan_mem_lane.Goals as goal
 

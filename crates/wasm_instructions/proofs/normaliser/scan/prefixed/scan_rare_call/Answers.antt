@@ -1,4 +1,4 @@
-use Rattle.wasm_types.proofs.ScannedTypes.{from_start}
+use Rattle.wasm_codec.proofs.ScanLaws.{from_start}
 use Rattle.wasm_instructions.specs.formats.Instructions.{operands_format}
 use Rattle.wasm_instructions.proofs.ScannedPrefixed.{opcode_scanned}
 use Rattle.wasm_instructions.proofs.normaliser.scan.prefixed.scan_rare_call.Goals as goal

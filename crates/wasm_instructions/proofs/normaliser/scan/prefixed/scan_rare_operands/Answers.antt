@@ -1,7 +1,7 @@
 use Rattle.std.proofs.Common.{refl}
 use Rattle.wasm_codec.specs.formats.Combinators.{a_byte, items, u32}
+use Rattle.wasm_codec.proofs.ScanLaws.{from_start}
 use Rattle.wasm_types.specs.formats.Types.{heap_type, val_type}
-use Rattle.wasm_types.proofs.ScannedTypes.{from_start}
 use Rattle.wasm_instructions.specs.declared.table.call.Operands.TheVariants as operands
 use Rattle.wasm_instructions.specs.OperandParts.{block_part, heap_part, index_part, lane_part, mem_part, order_part, shuffle_part, types_part, v128_part}
 use Rattle.wasm_instructions.specs.formats.Instructions.{operands_format}

@@ -1,5 +1,5 @@
 use Rattle.wasm_codec.specs.formats.Combinators.{items}
-use Rattle.wasm_types.proofs.ScannedTypes.{from_start}
+use Rattle.wasm_codec.proofs.ScanLaws.{from_start}
 use Rattle.wasm_instructions.specs.formats.Operands.{catch_clause}
 use Rattle.wasm_instructions.proofs.ScannedParts.{try_scanned}
 use Rattle.wasm_instructions.proofs.normaliser.scan.prefixed.scan_try_table.Goals as goal
