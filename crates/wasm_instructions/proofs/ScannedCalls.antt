@@ -1,5 +1,5 @@
 -- Instructions that are seen at once to be in their minimal encodings.
-use Rattle.std.proofs.Common.{◌≡◌, ℕ, zero, suc, ◌+◌, ◌-◌, ◌<◌, ◌≤◌, Bool, true, false, List, [], ◌∷◌, ◌++◌, length, get_or, take, take_all, drop, length-drop, not, ◌&&◌, Option, Some, None, refl, sym, ap, subst, ◌∙◌, arith}
+use Rattle.std.proofs.Common.{◌≡◌, ℕ, zero, suc, ◌+◌, ◌-◌, ◌<◌, ◌≤◌, Bool, true, false, List, [], ◌∷◌, ◌++◌, length, get_or, take, take_all, drop, length-drop, not, ◌&&◌, Option, Some, refl, sym, ap, subst, ◌∙◌, arith}
 use Rattle.std.proofs.Math.Bool.{and-true}
 use Rattle.std.proofs.lemmas.Bool.{lt-ltb, ne_eqb}
 use Rattle.wasm_codec.specs.Places.{place, byte_at}
@@ -11,7 +11,7 @@ use Rattle.wasm_codec.specs.Leb128.{unsigned_leb128}
 use Rattle.wasm_codec.proofs.ScanLaws.{made_scanned}
 use Rattle.wasm_instructions.proofs.CallRewriting.{of_kind}
 use Rattle.wasm_instructions.proofs.OperandFormatLaws.{one_digit}
-use Rattle.wasm_codec.specs.formats.Combinators.{Format, made, u32, u64, little_endian, with_low}
+use Rattle.wasm_codec.specs.formats.Combinators.{Format, u32, u64, little_endian, with_low}
 use Rattle.wasm_codec.proofs.NumberReading.{u32_one}
 use Rattle.wasm_instructions.specs.declared.table.call.Operands.TheVariants as operands
 use Rattle.wasm_instructions.specs.declared.table.opcode.Kind.{Kind}

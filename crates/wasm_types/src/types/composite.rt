@@ -328,11 +328,17 @@ pub(crate) fn read_composite_type(
 }
 
 /// Rewrites a composite type (Core 3.0, Composite Types).
+///
+/// A structure or an array needs no look at the additions of proposals.
 #[tactic(auto, using(std::proofs::Common::append_assoc), unfolding(crate::specs::formats::Types::composite_type))]
 pub(crate) fn rewrite_composite_type(rewriter: &mut Rewriter) -> Result<(), Fault>
     ensures rewrites { Rewrites composite_type rewriter.old rewriter.new result }
 {
-    if rewriter.peek(Construct::TypeForm)? == 0x65 {
+    let first = rewriter.peek(Construct::TypeForm)?;
+    if first == 0x5e || first == 0x5f {
+        return rewrite_inner_type(rewriter);
+    }
+    if first == 0x65 {
         rewriter.byte_of(Construct::TypeForm)?;
     }
     rewrite_describing_type(rewriter)

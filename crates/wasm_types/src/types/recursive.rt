@@ -135,6 +135,7 @@ fn rewrite_final_type(rewriter: &mut Rewriter) -> Result<(), Fault>
 }
 
 /// Rewrites a subtype (Core 3.0, Recursive Types).
+#[inline(always)]
 #[tactic(auto, using(std::proofs::Common::append_assoc), unfolding(crate::specs::formats::Types::sub_type))]
 pub(crate) fn rewrite_sub_type(rewriter: &mut Rewriter) -> Result<(), Fault>
     ensures rewrites { Rewrites sub_type rewriter.old rewriter.new result }
