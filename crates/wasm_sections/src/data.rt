@@ -244,6 +244,7 @@ fn append_data_mode<A: Allocator>(
 }
 
 /// Appends what precedes the contents of an active data segment. On error a part of it may remain.
+#[inline(always)]
 fn append_active_mode<A: Allocator>(
     memory_index: u32,
     offset: &[Call],
@@ -318,6 +319,7 @@ impl Encode for ActiveData<'_> {
 
     ghost refuses = { OnlyTooLong };
 
+    #[inline(always)]
     fn encode<A: Allocator>(&self, sink: &mut Vec<u8, A>) -> Result<(), EncodeError> {
         let start = sink.len();
         let result = append_active(self, sink);
@@ -326,6 +328,7 @@ impl Encode for ActiveData<'_> {
 }
 
 /// Appends an active data segment. On error a part of it may remain.
+#[inline(always)]
 fn append_active<A: Allocator>(
     segment: &ActiveData<'_>,
     sink: &mut Vec<u8, A>,
@@ -386,6 +389,7 @@ impl<'a> ListSection<DataSegment<'a>> {
     ///
     /// Fails with `TooLong` if the section already has 4,294,967,295 segments, `bytes` is longer than 4,294,967,295
     /// bytes, or a list in an instruction of `offset` has more items than that.
+    #[inline(always)]
     pub fn active(
         &mut self,
         memory_index: u32,

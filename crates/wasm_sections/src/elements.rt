@@ -434,6 +434,7 @@ fn append_element_mode<A: Allocator>(
 }
 
 /// Appends what precedes the element kind or type of an active segment in this form. On error a part of it may remain.
+#[inline(always)]
 fn append_active_mode<A: Allocator>(
     form: u32,
     table_index: u32,
@@ -586,6 +587,7 @@ impl Encode for ActiveElement<'_> {
 
     ghost refuses = { OnlyTooLong };
 
+    #[inline(always)]
     fn encode<A: Allocator>(&self, sink: &mut Vec<u8, A>) -> Result<(), EncodeError> {
         let start = sink.len();
         let result = append_active(self, sink);
@@ -594,6 +596,7 @@ impl Encode for ActiveElement<'_> {
 }
 
 /// Appends an active element segment. On error a part of it may remain.
+#[inline(always)]
 fn append_active<A: Allocator>(
     segment: &ActiveElement<'_>,
     sink: &mut Vec<u8, A>,
@@ -652,6 +655,7 @@ impl SectionItem for Element {
 impl ListSection<Element> {
     /// Adds an active segment: instantiating the module copies `elements` into the table `table_index`, from index
     /// `offset` on. The encoding omits table 0 if that is shorter.
+    #[inline(always)]
     pub fn active(
         &mut self,
         table_index: u32,

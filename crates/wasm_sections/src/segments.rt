@@ -17,6 +17,7 @@ use wasm_instructions::table::Call;
 
 /// Appends the number of a form, the memory or table index if the form has one, and the offset. On error a part of them
 /// may remain.
+#[inline(always)]
 pub(crate) fn append_table_and_offset<A: Allocator>(
     form: u32,
     index: Option<u32>,
