@@ -15,7 +15,7 @@ import shutil
 import subprocess
 
 from documentation import sources
-from parts.common import ROOT, copy_tree, last_lines, program as built, room, run as run_command
+from parts.common import ROOT, copy_tree, kit_line, last_lines, program as built, room, run as run_command
 
 PAGES = [ROOT / "README.md", ROOT / "CHANGELOG.md", *sorted(ROOT.glob("docs/*.md")), *sorted(ROOT.glob("bench/*.md")),
          *(ROOT / folder / "README.md" for folder in ("bindings", "bindings/js", "built", "linked"))]
@@ -360,8 +360,9 @@ def check_numbers(judge, page, known):
 
 def check_limits(judge):
     readme = (ROOT / "README.md").read_text("utf-8")
-    version = subprocess.run(["rt", "version"], capture_output=True, text=True, check=True).stdout.strip()
-    judge("limits", "README.md", "" if f"`{version}`" in readme else f"expected the kit's line `{version}`")
+    logic = kit_line().partition(" ")[2]  # kits of one logic prove the same
+    named = re.search(rf"`rattle-kit-\w+ {re.escape(logic)}`", readme)
+    judge("limits", "README.md", "" if named else f"expected the line of a kit with {logic}")
     lines = len(readme.splitlines())
     judge("limits", "README.md", "" if lines <= LINES_OF_README else f"{lines} lines, more than {LINES_OF_README}")
     texts = (file.read_text("utf-8") for file in [ROOT / "README.md", *ROOT.glob("docs/*.md")])
