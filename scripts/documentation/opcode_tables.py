@@ -74,7 +74,8 @@ def name_definitions(named):
             line += word
         lines += [f"{line} []"]
         made = "\n".join(lines) + "\n"
-        text = re.sub(rf"(^names prefixes\.{variant} =\n)(?:    .*\n)*", lambda it: it[1] + made, text, flags=re.MULTILINE)
+        body = re.compile(rf"(?<=^names prefixes\.{variant} =\n)(?:    .*\n)*", re.MULTILINE)
+        text = body.sub(lambda _: made, text)
     return text
 
 
@@ -86,7 +87,8 @@ def kind_arrays(table):
     for prefix, array in ARRAYS.items():
         end = BYTES if prefix is None else end_of(table, prefix)
         words = [of_kind[kind] if (kind := table.get((prefix, number), None)) else "NO" for number in range(end)]
-        made.append(f"/// {about(prefix)}\npub(crate) const {array}: [Option<Kind>; {end}] = [\n{filled(words, ',')}\n];\n")
+        declared = f"pub(crate) const {array}: [Option<Kind>; {end}]"
+        made.append(f"/// {about(prefix)}\n{declared} = [\n{filled(words, ',')}\n];\n")
     return "\n".join(made)
 
 

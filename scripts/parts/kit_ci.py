@@ -28,7 +28,7 @@ def after_first(tasks):
 
 
 def in_lanes(tasks, kits=kit().in_lanes):
-    """Does the tasks as the kit does. Tests also wait for the proof of their crate, and others for the first libraries."""
+    """Does the tasks as the kit does. Tests also wait for their crate's proof, and others for the first libraries."""
     first = after_first(tasks)
     own = {key: [(key[0], "proof")] if key[1] == "tests" else [] for key in tasks}
     return kits({key: ([*waits, *first[key], *own[key]], *more) for key, (waits, *more) in tasks.items()})

@@ -183,8 +183,8 @@ pub(crate) fn take_field_type<I: Input>(input: &mut I) -> Result<FieldType, Faul
     })
 }
 
-/// Returns the length in bytes of the field type that the bytes begin with. Returns `None` unless it is minimally encoded
-/// and its storage type can be scanned.
+/// Returns the length in bytes of the field type that the bytes begin with. Returns `None` unless it is minimally
+/// encoded and its storage type can be scanned.
 #[inline(always)]
 #[tactic(auto, using(crate::proofs::ScannedFields::field_scanned))]
 pub(crate) fn scan_field_type(bytes: &[u8]) -> Option<usize>

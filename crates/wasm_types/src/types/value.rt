@@ -290,8 +290,8 @@ pub fn scan_val_type(bytes: &[u8]) -> Option<usize>
     }
 }
 
-/// Returns the length in bytes of the storage type that the bytes begin with. Returns `None` unless it is a packed type, or
-/// a value type that can be scanned.
+/// Returns the length in bytes of the storage type that the bytes begin with. Returns `None` unless it is a packed type
+/// or a value type that can be scanned.
 #[inline(always)]
 #[tactic(auto, using(crate::proofs::ScannedFields::i8_found, crate::proofs::ScannedFields::i16_found, crate::proofs::ScannedFields::value_found))]
 pub(crate) fn scan_storage_type(bytes: &[u8]) -> Option<usize>
