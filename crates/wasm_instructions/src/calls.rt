@@ -36,7 +36,9 @@ pub fn append_calls<A: Allocator>(bytes: &mut Vec<u8, A>, calls: &[Call]) -> Res
     }
 }
 
-/// Does the same for any number of calls. `append_calls` doesn't use it for one, whose kind the compiler often knows.
+/// Appends the minimal encodings of any number of `calls`, all of them or none.
+///
+/// Fails as `append_calls` does, which appends a call alone without this loop: the compiler then often knows its kind.
 fn append_all<A: Allocator>(bytes: &mut Vec<u8, A>, calls: &[Call]) -> Result<(), EncodeError>
     ensures ok { OnOk result (bytes.new.items ≡ bytes.old.items ++ instructions_bytes calls.now) }
     ensures err { OnErr result (bytes.new.items ≡ bytes.old.items) }
