@@ -1,8 +1,9 @@
 -- Hints of functions that are moved with the instructions in the functions' bodies (WebAssembly proposal, Branch Hinting).
-use Rattle.std.specs.Prelude.{◌≡◌, ℕ, ◌-◌, ◌≤◌, List, map, Some, slice_get}
-use Rattle.wasm_custom_sections.specs.MovedOffsets.{Each, MovesHint}
+use Rattle.std.specs.Prelude.{◌≡◌, ℕ, ◌-◌, ◌≤◌, List, [], ◌∷◌, All, length, map, Option, Some, None, slice_get, IfSome}
+use Rattle.wasm_custom_sections.specs.MovedOffsets.{AreFronts, Each, MovesHint}
 use Rattle.wasm_custom_sections.specs.declared.branch_hints.FunctionHints.{FunctionHints}
 use Rattle.wasm_custom_sections.specs.declared.moved_hints.functions.BodyBytes.{BodyBytes}
+use Rattle.wasm_custom_sections.specs.declared.moved_hints.offsets.Fronts.{Fronts}
 
 -- The function with this index has this body, among the bodies of functions after so many imported ones.
 pub record IsBodyAt (imported : ℕ) (bodies : List (List ℕ)) (index : ℕ) (body : List ℕ) : Type 0 where
@@ -23,3 +24,17 @@ bytes_of_body body = body.bytes.now
 -- The bytes of each body.
 abbrev pub all_bodies : List BodyBytes → List (List ℕ)
 all_bodies = map bytes_of_body
+
+-- ---- inside
+
+-- These fronts are known of each body.
+abbrev pub HasFronts : List (List ℕ) → List (Option Fronts) → Type 0
+HasFronts [] [] = Unit {0}
+HasFronts [] (known ∷ more) = ⊥
+HasFronts (body ∷ bodies) [] = ⊥
+HasFronts (body ∷ bodies) (known ∷ more) = IfSome known (AreFronts body) × HasFronts bodies more
+
+-- No fronts are known of so many bodies.
+pub record AreUnknown (count : ℕ) (known : List (Option Fronts)) : Type 0 where
+  pub len : length known ≡ count
+  pub none : All (λ fronts. fronts ≡ None) known

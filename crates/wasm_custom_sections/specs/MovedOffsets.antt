@@ -1,11 +1,12 @@
 -- Offsets of instructions in a function's body, and in the body's minimal encoding; branch hints that are moved from one
 -- to the other (WebAssembly proposal, Branch Hinting).
-use Rattle.std.specs.Prelude.{◌≡◌, ℕ, ◌<◌, ◌≤◌, List, [], ◌∷◌, ◌++◌, length, take}
+use Rattle.std.specs.Prelude.{◌≡◌, ℕ, ◌<◌, ◌≤◌, List, [], ◌∷◌, ◌++◌, All, length, take}
 use Rattle.wasm_types.specs.declared.types.value.ValType.{ValType}
 use Rattle.wasm_instructions.specs.formats.Instructions.{Instruction}
 use Rattle.wasm_code.specs.formats.CodeBodies.{function_code}
 use Rattle.wasm_custom_sections.specs.declared.branch_hints.BranchHint.{BranchHint}
 use Rattle.wasm_custom_sections.specs.declared.moved_hints.offsets.Front.{Front}
+use Rattle.wasm_custom_sections.specs.declared.moved_hints.offsets.Fronts.{Fronts}
 
 -- Each of the first list is in this relation to that of the second at its place, and no list has more.
 pub data Each {A : Type 0} (R : A → A → Type 0) : List A → List A → Type 0 where
@@ -67,3 +68,9 @@ pub record IsFrontUpTo (body : List ℕ) (offset : ℕ) (front : Front) : Type 0
   pub front_is : IsFront body front
   pub len_is : front.len ≡ offset
   pub goes_on : offset < length body
+
+-- These are fronts of the body.
+pub record AreFronts (body : List ℕ) (fronts : Fronts) : Type 0 where
+  pub locals : AreLocals body fronts.locals
+  pub last : IsFront body fronts.last
+  pub checkpoints : All (IsFront body) fronts.checkpoints.items

@@ -6,14 +6,15 @@ ghost use Rattle.wasm_code.specs.formats.Sections.{all_parts_of, first_body_of, 
 ghost use Rattle.wasm_sections.specs.formats.EntryParts.{all_import_parts};
 ghost use Rattle.wasm_sections.specs.formats.ModuleSections.{KeepsMinimal};
 ghost use Rattle.wasm_custom_sections.specs.MovedHints.{AppendsMoved, CantMove, HasHintBytes, HasHintSection, ImportsFunctions, IsCodeOf, IsHintSection, MovesContents, MovesHints, MovesInOneWay, function_imports, import_section_id, is_function as function_type};
-ghost use Rattle.wasm_custom_sections.specs.MovedFunctions.{all_bodies};
+ghost use Rattle.wasm_custom_sections.specs.MovedFunctions.{HasFronts, all_bodies};
 ghost use Rattle.wasm_custom_sections.specs.declared.moved_hints.HintedCode.{HintedCode};
 
 pub mod functions;
 pub mod offsets;
 
 use crate::branch_hints::FunctionHints;
-use crate::moved_hints::functions::{BodyBytes, moved_functions};
+use crate::moved_hints::functions::{BodyBytes, moved_functions, no_fronts};
+use crate::moved_hints::offsets::Fronts;
 use std::alloc::{AllocError, Global};
 use wasm_code::raw::read_module;
 use wasm_code::section::{CODE_SECTION_ID, HEADER, RawSection, append_section, first_body};
@@ -114,6 +115,7 @@ impl HintedCode {
             Err(DecodeError::Malformed(_)) => return Ok(None),
             Err(DecodeError::Memory) => return Err(AllocError),
         };
+        let mut known = no_fronts(alloc, bodies.len())?;
         let mut moved = Vec::from_slice(alloc, &HEADER)?;
         for section in &sections {
             if !append_moved(
@@ -121,6 +123,7 @@ impl HintedCode {
                 *section,
                 self.imported_functions,
                 bodies.as_slice(),
+                known.as_mut_slice(),
                 &mut moved,
             )? {
                 return Ok(None);
@@ -210,15 +213,18 @@ fn append_moved(
     section: RawSection<'_>,
     imported: usize,
     bodies: &[BodyBytes<'_>],
+    known: &mut [Option<Fronts>],
     sink: &mut Vec<u8>,
 ) -> Result<bool, AllocError>
+    requires { HasFronts (all_bodies bodies.now) known.old }
+    ensures known { HasFronts (all_bodies bodies.now) known.new }
     ensures moved { IfOk result (λ done. done ≡ true → AppendsMoved imported (all_bodies bodies.now) (parts_of section.entry) sink.old.items sink.new.items) }
     ensures none { IfOk result (λ done. done ≡ false → CantMove imported (all_bodies bodies.now) (parts_of section.entry)) }
 {
     let Some(contents) = hint_bytes(section) else {
         return done(append_section(section.id, &section, sink));
     };
-    let Some(moved) = moved_contents(alloc, contents, imported, bodies)? else {
+    let Some(moved) = moved_contents(alloc, contents, imported, bodies, known)? else {
         return Ok(false);
     };
     let custom = CustomSection {
@@ -247,7 +253,10 @@ fn moved_contents(
     contents: &[u8],
     imported: usize,
     bodies: &[BodyBytes<'_>],
+    known: &mut [Option<Fronts>],
 ) -> Result<Option<Vec<u8>>, AllocError>
+    requires { HasFronts (all_bodies bodies.now) known.old }
+    ensures known { HasFronts (all_bodies bodies.now) known.new }
     ensures moves { IfOk result (λ found. IfSome found (λ moved. MovesContents imported (all_bodies bodies.now) contents.now moved.items)) }
     ensures none { IfOk result (λ found. IfNone found ((moved : List ℕ) → MovesContents imported (all_bodies bodies.now) contents.now moved → ⊥)) }
 {
@@ -256,7 +265,7 @@ fn moved_contents(
         Err(DecodeError::Malformed(_)) => return Ok(None),
         Err(DecodeError::Memory) => return Err(AllocError),
     };
-    let Some(moved) = moved_functions(alloc, functions.as_slice(), imported, bodies)? else {
+    let Some(moved) = moved_functions(alloc, functions.as_slice(), imported, bodies, known)? else {
         return Ok(None);
     };
     let mut bytes = Vec::new(alloc);

@@ -133,6 +133,19 @@ fn hints_of_a_long_function_move(rt: HostRuntime) -> Result<(), Fail> {
     Ok(())
 }
 
+/// A function has its hints in several places, and another one between them.
+#[test]
+fn hints_of_functions_that_are_named_again_move(rt: HostRuntime) -> Result<(), Fail> {
+    let alloc = rt.alloc();
+    let hints = "0401010F01010101090100020101010101020901000F0100";
+    let Some(moved) = moved(alloc, "32", hints)? else {
+        return Err(Fail::from("not moved"));
+    };
+    let hints = "0401010A01010101050100020101010101020501000A0100";
+    let expected = format!(in alloc; "{SECTIONS}0032{NAME}{hints}{MINIMAL}")?;
+    is(alloc, moved.as_slice(), expected.as_str())
+}
+
 #[test]
 fn hints_that_stand_nowhere_stay(rt: HostRuntime) -> Result<(), Fail> {
     let alloc = rt.alloc();

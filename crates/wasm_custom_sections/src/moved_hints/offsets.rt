@@ -1,6 +1,6 @@
 //! Offsets of instructions in the body of a function, and in the body's minimal encoding.
-ghost use Rattle.std.specs.Prelude.{◌≤◌, ℕ, List, All, IfOk, IfSome, IfNone};
-ghost use Rattle.wasm_custom_sections.specs.MovedOffsets.{AreLocals, Each, IsFront, IsFrontUpTo, MovesHint, NoInstructionAt};
+ghost use Rattle.std.specs.Prelude.{◌≡◌, ◌≤◌, ℕ, List, All, None, IfOk, IfSome, IfNone};
+ghost use Rattle.wasm_custom_sections.specs.MovedOffsets.{AreFronts, AreLocals, Each, IsFront, IsFrontUpTo, MovesHint, NoInstructionAt};
 ghost use Rattle.wasm_custom_sections.specs.declared.branch_hints.BranchHint.{BranchHint};
 
 use crate::branch_hints::BranchHint;
@@ -25,44 +25,122 @@ pub struct Front {
     pub minimal: usize,
 }
 
-/// Returns hints for the same instructions of a body, once the body is minimally encoded.
+/// Fronts of a function's body.
+#[derive(Drop)]
+pub struct Fronts {
+    /// The locals.
+    pub locals: Front,
+    /// The front before the last hint that moved.
+    pub last: Front,
+    /// Fronts in ascending order, at least 256 bytes apart. Empty until a hint precedes the one before it.
+    pub checkpoints: Vec<Front>,
+}
+
+impl Fronts {
+    /// Returns the bytes of the body up to `offset`, and keeps them as the last front.
+    ///
+    /// `None` means that no instruction begins at `offset`. Fails if memory runs out.
+    fn up_to(
+        &mut self,
+        alloc: Global,
+        body: &[u8],
+        offset: u32,
+    ) -> Result<Option<Front>, AllocError>
+        requires { AreFronts body.now self.old }
+        ensures front { IfOk result (λ found. IfSome found (IsFrontUpTo body.now offset)) }
+        ensures none { IfOk result (λ found. IfNone found (NoInstructionAt body.now offset)) }
+        ensures fronts { AreFronts body.now self.new }
+    {
+        // Hints that don't ascend go on after checkpoints: after the locals they would take quadratic time.
+        if (offset as usize) < self.last.len && self.checkpoints.is_empty() {
+            self.checkpoints = checkpoints_of(alloc, body, self.locals)?;
+        }
+        let start = nearest_front(self.checkpoints.as_slice(), self.last, offset);
+        let Some(next) = front_up_to(alloc, body, self.locals, start, offset)? else {
+            return Ok(None);
+        };
+        self.last = next;
+        Ok(Some(next))
+    }
+}
+
+/// Returns hints for the same instructions of a body, once the body is minimally encoded. Keeps the body's fronts in
+/// `known`, for the next hints.
 ///
 /// `None` means that no instruction begins at one of the offsets. Fails if memory runs out.
 pub(crate) fn moved_hints(
     alloc: Global,
     body: &[u8],
+    known: &mut Option<Fronts>,
     hints: &[BranchHint],
 ) -> Result<Option<Items<BranchHint>>, AllocError>
+    requires { IfSome known.old (AreFronts body.now) }
+    ensures known { IfSome known.new (AreFronts body.now) }
     ensures moves { IfOk result (λ found. IfSome found (λ moved. Each (MovesHint body.now) hints.now moved)) }
     ensures none { IfOk result (λ found. IfNone found ((moved : List BranchHint) → Each (MovesHint body.now) hints.now moved → ⊥)) }
 {
-    let mut moved = Vec::with_capacity(alloc, hints.len())?;
     if hints.is_empty() {
-        return Ok(Some(Items::from(moved)));
+        return Ok(Some(Items::from(Vec::new(alloc))));
     }
-    let Some(locals) = locals_of(alloc, body)? else {
+    let Some(mut fronts) = take_fronts(alloc, body, known)? else {
         return Ok(None);
     };
-    let mut checkpoints = Vec::new(alloc);
-    let mut front = locals;
+    let moved = hints_after(alloc, body, &mut fronts, hints)?;
+    *known = Some(fronts);
+    Ok(moved)
+}
+
+/// Takes the known fronts of a body, which are its locals at first. `None` means that these are malformed. Fails if memory
+/// runs out.
+fn take_fronts(
+    alloc: Global,
+    body: &[u8],
+    known: &mut Option<Fronts>,
+) -> Result<Option<Fronts>, AllocError>
+    requires { IfSome known.old (AreFronts body.now) }
+    ensures taken { known.new ≡ None }
+    ensures fronts { IfOk result (λ found. IfSome found (AreFronts body.now)) }
+    ensures none { IfOk result (λ found. IfNone found ((offset : ℕ) → NoInstructionAt body.now offset)) }
+{
+    if let Some(fronts) = known.take() {
+        return Ok(Some(fronts));
+    }
+    match locals_of(alloc, body)? {
+        Some(locals) => Ok(Some(Fronts {
+            locals,
+            last: locals,
+            checkpoints: Vec::new(alloc),
+        })),
+        None => Ok(None),
+    }
+}
+
+/// Returns hints for the same instructions of a body, once the body is minimally encoded. Begins after the nearest front.
+///
+/// `None` means that no instruction begins at one of the offsets. Fails if memory runs out.
+fn hints_after(
+    alloc: Global,
+    body: &[u8],
+    fronts: &mut Fronts,
+    hints: &[BranchHint],
+) -> Result<Option<Items<BranchHint>>, AllocError>
+    requires { AreFronts body.now fronts.old }
+    ensures moves { IfOk result (λ found. IfSome found (λ moved. Each (MovesHint body.now) hints.now moved)) }
+    ensures none { IfOk result (λ found. IfNone found ((moved : List BranchHint) → Each (MovesHint body.now) hints.now moved → ⊥)) }
+    ensures fronts { AreFronts body.now fronts.new }
+{
+    let mut moved = Vec::with_capacity(alloc, hints.len())?;
     for hint in hints {
-        let offset = hint.branch_func_offset;
-        // Hints that don't ascend go on after checkpoints: after the locals they would take quadratic time.
-        if (offset as usize) < front.len && checkpoints.is_empty() {
-            checkpoints = checkpoints_of(alloc, body, locals)?;
-        }
-        let start = nearest_front(checkpoints.as_slice(), front, offset);
-        let Some(next) = front_up_to(alloc, body, locals, start, offset)? else {
+        let Some(front) = fronts.up_to(alloc, body, hint.branch_func_offset)? else {
             return Ok(None);
         };
-        let Ok(branch_func_offset) = u32::try_from(next.minimal) else {
+        let Ok(branch_func_offset) = u32::try_from(front.minimal) else {
             return Ok(None);
         };
         moved.push(BranchHint {
             branch_func_offset,
             likely: hint.likely,
         })?;
-        front = next;
     }
     Ok(Some(Items::from(moved)))
 }

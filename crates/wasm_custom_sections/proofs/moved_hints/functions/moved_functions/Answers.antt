@@ -6,7 +6,10 @@ use Rattle.wasm_custom_sections.proofs.MovedOffsetLaws.{each_at, each_more}
 use Rattle.wasm_custom_sections.proofs.moved_hints.functions.moved_functions.Goals as goal
 
 pub loop-function-init : goal.loop-function-init
-loop-function-init c = subst (Each (MovesFunction c.args.imported (all_bodies c.args.bodies.now)) []) (sym c.in_ok-moved.ensures.items) none
+loop-function-init c = record {
+  known = c.requires;
+  moves = subst (Each (MovesFunction c.args.imported (all_bodies c.args.bodies.now)) []) (sym c.in_ok-moved.ensures.items) none;
+}
 
 pub loop-function-preserved : goal.loop-function-preserved
 loop-function-preserved c =
@@ -15,7 +18,10 @@ loop-function-preserved c =
     let i = c.loop-function.function-index in
     let d = c.function-item.result in
     let one = subst (λ (f : FunctionHints). R f c.in-Some.next) c.function-item.is (rw c.in-Some.is at c.in_ok-next.ensures.moves) in
-    subst (Each R (take (i + 1) functions)) (sym c.in_ok-push.ensures.items) (each_more R functions c.loop-function.moved.items i d c.in-Some.next c.loop-function-test.true c.loop-function.invariant one)
+    record {
+      known = c.in_ok-next.ensures.known;
+      moves = subst (Each R (take (i + 1) functions)) (sym c.in_ok-push.ensures.items) (each_more R functions c.loop-function.moved.items i d c.in-Some.next c.loop-function-test.true c.loop-function.invariant.moves one);
+    }
 
 pub returns-in_default-clause-none : goal.returns-in_default-clause-none
 returns-in_default-clause-none c = λ moved all.
