@@ -1,4 +1,5 @@
-"""The tables of opcodes: their kinds, as the definition `ranges` of `Opcodes.antt` has them, and their names."""
+"""The tables of opcodes: their kinds, as the definition `ranges` of `Opcodes.antt` has them, and their names. A kind that
+the type `Kind` has comes into the other places that list them all."""
 import re
 import textwrap
 
@@ -10,6 +11,10 @@ NAME_DEFINITIONS = CRATE / "specs/formats/OpcodeNames.antt"
 NAMES = CRATE / "src/names/opcodes.rt"
 KINDS = CRATE / "src/table/kinds.rt"
 SCANNED = CRATE / "src/normaliser/scan/opcodes.rt"
+KIND_TYPE = CRATE / "src/table/opcode.rt"
+LAWS = CRATE / "proofs/OpcodeLaws.antt"
+REPLAYED = ROOT / "crates/replay/src/kinds.rt"
+TESTED = ROOT / "crates/conformance/src/tests/reading/table.rt"
 PAGE = ROOT / "docs/FORMAT.md"
 # The array of each prefix byte, and the prefix in definitions.
 ARRAYS = {None: "WITHOUT_PREFIX", 0xFB: "AFTER_FB", 0xFC: "AFTER_FC", 0xFD: "AFTER_FD", 0xFE: "AFTER_FE"}
@@ -79,11 +84,20 @@ def name_definitions(named):
     return text
 
 
+def all_kinds():
+    """The kinds, as the type `Kind` has them."""
+    body = re.search(r"^pub enum Kind \{\n((?:    .*\n)*)", KIND_TYPE.read_text("utf-8"), re.MULTILINE)[1]
+    return re.findall(r"^    (\w+),$", body, re.MULTILINE)
+
+
 def kind_arrays(table):
-    """The source of the kinds, with the arrays behind the constants."""
+    """The source of the kinds: a constant for each, and the arrays. A new constant has the name of its kind."""
     text = KINDS.read_text("utf-8")
     of_kind = constants(text, "Option<Kind>")
     made = [text[:text.index(f"/// {about(None)}")].rstrip("\n") + "\n"]
+    for kind in [kind for kind in all_kinds() if kind not in of_kind]:
+        of_kind[kind] = re.sub(r"(?<=[a-z])(?=[A-Z])", "_", kind).upper()
+        made.append(f"const {of_kind[kind]}: Option<Kind> = Some(Kind::{kind});\n")
     for prefix, array in ARRAYS.items():
         end = BYTES if prefix is None else end_of(table, prefix)
         words = [of_kind[kind] if (kind := table.get((prefix, number), None)) else "NO" for number in range(end)]
@@ -99,6 +113,26 @@ def scanned_array(table):
     words = [of_kind.get(kind.replace("None", "Plain"), "NO") if (kind := table.get((None, number))) else "NO"
              for number in range(BYTES)]
     return re.sub(r"(?<=\[ScannedKind; 256\] = \[\n)(?:    .*\n)*", lambda _: filled(words, ",") + "\n", text)
+
+
+def laws():
+    """The proofs about opcodes, with a line for each kind: only some kinds are scanned."""
+    scanned = constants(SCANNED.read_text("utf-8"), "ScannedKind")
+    lines = [f"kind_back (Some kinds.{kind}) k e = {'e' if kind.replace('None', 'Plain') in scanned else 'absurd cc'}\n"
+             for kind in all_kinds()]
+    return re.sub(r"(?:^kind_back \(Some kinds\..*\n)+", "".join(lines), LAWS.read_text("utf-8"), flags=re.MULTILINE)
+
+
+def replayed():
+    """The source that names the kinds of vectors."""
+    lines = [f'        Kind::{kind} => "{kind}",\n' for kind in all_kinds()]
+    return re.sub(r"(?:        Kind::.*\n)+", "".join(lines), REPLAYED.read_text("utf-8"))
+
+
+def tested(table):
+    """The test with the number of opcodes of each prefix."""
+    counts = {variant: sum(before == prefix for before, _ in table) for prefix, variant in VARIANTS.items()}
+    return re.sub(r"(?<=\(Prefix::)(\w+), \d+", lambda of: f"{of[1]}, {counts[of[1]]}", TESTED.read_text("utf-8"))
 
 
 def runs(numbers):
@@ -131,7 +165,7 @@ def texts(named):
     """The texts of the files that have tables of opcodes, with these names."""
     table = kinds()
     return {NAMES: name_arrays(named), NAME_DEFINITIONS: name_definitions(named), KINDS: kind_arrays(table),
-            SCANNED: scanned_array(table), PAGE: page(table)}
+            SCANNED: scanned_array(table), LAWS: laws(), REPLAYED: replayed(), TESTED: tested(table), PAGE: page(table)}
 
 
 def faults(named):
