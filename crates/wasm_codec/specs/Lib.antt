@@ -12,3 +12,4 @@ pub mod Rewriter
 pub mod Inputs
 pub mod Scanning
 pub mod Streams
+pub mod Appending

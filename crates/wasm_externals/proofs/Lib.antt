@@ -3,3 +3,4 @@ pub mod NameLaws
 pub mod ExternalLaws
 pub mod ExpressionLaws
 pub mod ScannedEntities
+pub mod AppendLaws

@@ -1,5 +1,5 @@
 //! Expressions: instructions up to the `end` that closes none of their blocks (Core 3.0, Expressions).
-ghost use Rattle.std.specs.Prelude.{◌≡◌, ◌+◌, ◌^◌, ◌<◌, IsTrue, IsFalse, ◌++◌, OnOk, OnErr, IfErr, length, take, Some, IfSome};
+ghost use Rattle.std.specs.Prelude.{◌≡◌, ◌+◌, ◌^◌, ◌<◌, IsTrue, IsFalse, ◌++◌, OnOk, OnErr, IfErr, Some, IfSome};
 ghost use Rattle.wasm_externals.specs.ClosedExpressions.{IsClosed, IsCountedExpr};
 ghost use Rattle.wasm_codec.specs.Scanning.{Scans};
 ghost use Rattle.wasm_codec.specs.declared.rewriter.scan.Scanned.TheVariants.{Minimal};
@@ -9,6 +9,7 @@ ghost use Rattle.wasm_instructions.specs.formats.Instructions.{instruction};
 ghost use Rattle.wasm_codec.specs.Rewriter.{Rewrites};
 ghost use Rattle.wasm_externals.specs.formats.Nesting.{as_move};
 ghost use Rattle.wasm_externals.specs.formats.Expressions.{nested, nested_by, expr};
+ghost use Rattle.wasm_codec.specs.Appending.{AppendsIfClosed};
 ghost use Rattle.wasm_codec.specs.Encoding.{IsRefusal, IsMinimal, OnlyTooLong};
 
 use std::alloc::{Allocator, Global};
@@ -212,11 +213,7 @@ pub fn encode_expr<A: Allocator>(calls: &[Call], sink: &mut Vec<u8, A>) -> Resul
 /// Appends the instructions of an expression and the final `end`. On error some of them may remain.
 #[inline(always)]
 fn append_expr<A: Allocator>(calls: &[Call], sink: &mut Vec<u8, A>) -> Result<(), EncodeError>
-    ensures ok { OnOk result (sink.new.items ≡ sink.old.items ++ expr.bytes calls.now) }
-    ensures can { OnOk result (IsCountedExpr calls.now) }
-    ensures written { OnOk result (IsClosed calls.now → IsMinimal expr.Encodes expr.bytes calls.now) }
-    ensures refused { IfErr result (IsRefusal IsCountedExpr OnlyTooLong calls.now) }
-    ensures kept { take (length sink.old.items) sink.new.items ≡ sink.old.items }
+    ensures { AppendsIfClosed expr calls.now (IsCountedExpr calls.now) (IsClosed calls.now) sink.old.items sink.new.items result }
 {
     append_calls(sink, calls)?;
     sink.reserve(1)?;

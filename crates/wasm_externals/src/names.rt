@@ -1,5 +1,5 @@
 //! Names: a length in bytes, then UTF-8 text (Core 3.0, Names).
-ghost use Rattle.std.specs.Prelude.{◌≡◌, List, ℕ, IfErr, ◌++◌, true, OnOk, length, take, Some, IfSome};
+ghost use Rattle.std.specs.Prelude.{◌≡◌, List, ℕ, IfErr, true, length, Some, IfSome};
 ghost use Rattle.wasm_codec.specs.Scanning.{Scans};
 ghost use Rattle.wasm_codec.specs.declared.rewriter.scan.Scanned.TheVariants.{Minimal};
 ghost use Rattle.wasm_codec.specs.Inputs.{Passes};
@@ -9,7 +9,8 @@ ghost use Rattle.wasm_codec.specs.Rewriter.{Rewrites};
 ghost use Rattle.wasm_codec.specs.Outcomes.{IsMalformed};
 ghost use Rattle.wasm_externals.specs.formats.Names.{utf8_to_end, name};
 ghost use Rattle.std.specs.Str.{is_utf8};
-ghost use Rattle.wasm_codec.specs.Encoding.{IsCount, IsCountRefusal, IsMinimal};
+ghost use Rattle.wasm_codec.specs.Appending.{AppendsMinimal};
+ghost use Rattle.wasm_codec.specs.Encoding.{IsCount};
 ghost use Rattle.wasm_codec.specs.formats.Grammar.{IsBytes};
 
 use std::alloc::Allocator;
@@ -137,13 +138,8 @@ impl RewritableBody for Text {
 }
 
 /// Appends a name. Appends nothing if it fails.
-#[tactic(auto, using(crate::proofs::NameLaws::name_written), unfolding(crate::specs::formats::Names::name))]
 pub fn append_name<A: Allocator>(text: &str, sink: &mut Vec<u8, A>) -> Result<(), EncodeError>
-    ensures ok { OnOk result (sink.new.items ≡ sink.old.items ++ name.bytes text.now) }
-    ensures written { OnOk result (IsMinimal name.Encodes name.bytes text.now) }
-    ensures can { OnOk result (IsCount (length text.now)) }
-    ensures refused { IfErr result (IsCountRefusal (length text.now)) }
-    ensures kept { take (length sink.old.items) sink.new.items ≡ sink.old.items }
+    ensures { AppendsMinimal name text.now (IsCount (length text.now)) sink.old.items sink.new.items result }
 {
     are_utf8(text);
     encode_str(text, sink)
