@@ -42,7 +42,6 @@ use Rattle.wasm_sections.specs.declared.elements.Elements.TheVariants as held
 use Rattle.wasm_sections.proofs.SegmentLaws.{left_out, by_its_number, by_another_number}
 use Rattle.wasm_externals.proofs.PartCombinatorLaws.{Lawful-numbered}
 use Rattle.wasm_externals.proofs.ExpressionLaws.{expr_is_lawful, in_expr}
-use Rattle.wasm_externals.proofs.ExternalLaws.{two}
 
 Lawful-kind-and-functions : IsLawful kind_and_functions
 Lawful-kind-and-functions = Lawful-after 0x00 (lit≤ tt) (Lawful-items Lawful-u32)
@@ -415,11 +414,8 @@ element_bytes_are (modes.Active table offset) (held.Expressions ty es) = by (eqb
   by true is = rw is (place_then 4 None offset ((items expr).bytes es))
   by false is = rw is (place_then 6 (Some table) offset (ref_type.bytes ty ++ (items expr).bytes es))
 
-pub element_appended : (e : Element) (form : ℕ) (short : Bool) (old some new : List ℕ) → form ≡ element_number e → short ≡ is_short form → some ≡ old ++ element_mode_bytes form e.mode → new ≡ some ++ elements_bytes short e.elements → new ≡ old ++ element_segment.bytes e
-element_appended e form short old some new is shortly p q =
-    let first : some ≡ old ++ element_mode_bytes (element_number e) e.mode = subst (λ (n : ℕ). some ≡ old ++ element_mode_bytes n e.mode) is p in
-    let second : new ≡ some ++ elements_bytes (is_short (element_number e)) e.elements = subst (λ (n : ℕ). new ≡ some ++ elements_bytes (is_short n) e.elements) is (subst (λ (s : Bool). new ≡ some ++ elements_bytes s e.elements) shortly q) in
-    two old (element_mode_bytes (element_number e) e.mode) (elements_bytes (is_short (element_number e)) e.elements) some new first second ∙ ap (λ (l : List ℕ). old ++ l) (element_bytes_are e.mode e.elements)
+pub element_parts : (e : Element) (form : ℕ) (short : Bool) → form ≡ element_number e → short ≡ is_short form → element_mode_bytes form e.mode ++ elements_bytes short e.elements ≡ element_segment.bytes e
+element_parts e form short is shortly = rw (shortly, is) (element_bytes_are e.mode e.elements)
 
 element_there : (mode : ElementMode) (elements : Elements) → ElementModeFits (element_number (element mode elements)) mode → ElementsFit (is_short (element_number (element mode elements))) elements → element_segment.InRange (element mode elements)
 unfolding element_segment
@@ -449,14 +445,17 @@ element_written e form short is shortly fits hold closed =
     let own : ElementsFit (is_short (element_number e)) e.elements = subst (λ (n : ℕ). ElementsFit (is_short n) e.elements) is (subst (λ (s : Bool). ElementsFit s e.elements) shortly (hold closed.1)) in
     written element_is_lawful.minimal e (element_there e.mode e.elements (subst (λ (n : ℕ). ElementModeFits n e.mode) is (fits closed.0)) own)
 
-pub element_mode_fits : (form : ℕ) (mode : ElementMode) (table : ℕ) (offset calls : List Instruction) → mode ≡ modes.Active table offset → calls ≡ offset → (is_short form ≡ false → table < 2 ^ 32) → (IsClosed calls → IsMinimal expr.Encodes expr.bytes calls) → IsClosedMode mode → ElementModeFits form mode
-element_mode_fits form mode table offset calls is these small made closed =
-    let whole : IsClosed offset → IsMinimal expr.Encodes expr.bytes offset = subst (λ (l : List Instruction). IsClosed l → IsMinimal expr.Encodes expr.bytes l) these made in
-    let ends : IsClosed offset = subst IsClosedMode is closed in
-    subst (ElementModeFits form) (sym is) (small, in_expr offset (whole ends))
+pub element_mode_fits : (form table : ℕ) (offset : List Instruction) → (is_short form ≡ false → table < 2 ^ 32) → (IsClosed offset → IsMinimal expr.Encodes expr.bytes offset) → IsClosed offset → ElementModeFits form (modes.Active table offset)
+element_mode_fits form table offset small made closed = (small, in_expr offset (made closed))
 
-pub functions_fit : (short : Bool) (elements : Elements) (fs given : List ℕ) → elements ≡ held.Functions fs → given ≡ fs → IsCount (length given) → All (IsMinimal EncodesU32 unsigned_leb128) given → ElementsFit short elements
-functions_fit short elements fs given is these few made =
+pub unnamed_bytes : (form table : ℕ) (offset : List Instruction) → is_short form ≡ true → table_and_offset_bytes form None offset ≡ element_mode_bytes form (modes.Active table offset)
+unnamed_bytes form table offset short = rw short refl
+
+pub named_bytes : (form table : ℕ) (offset : List Instruction) → is_short form ≡ false → table_and_offset_bytes form (Some table) offset ≡ element_mode_bytes form (modes.Active table offset)
+named_bytes form table offset long = rw long refl
+
+pub functions_fit : (short : Bool) (elements : Elements) (fs given : List ℕ) → elements ≡ held.Functions fs → given ≡ fs → IsCount (length given) → All (IsMinimal EncodesU32 unsigned_leb128) given → AreClosed elements → ElementsFit short elements
+functions_fit short elements fs given is these few made closed =
     subst (ElementsFit short) (sym is) (subst (λ (l : List ℕ). (items u32).InRange l) these (few, all_in_range u32 Lawful-u32 given made))
 
 pub expressions_fit : (short : Bool) (elements : Elements) (ty : RefType) (es given : List (List Instruction)) → elements ≡ held.Expressions ty es → given ≡ es → (short ≡ false → ref_type.InRange ty) → IsCount (length given) → All IsWrittenExpr given → AreClosed elements → ElementsFit short elements

@@ -1,6 +1,6 @@
 -- The laws of entries of sections, and what is written of them.
 use Rattle.std.proofs.Common.{Some, refl, lit≤, ◌≡◌, ℕ, ◌^◌, ◌<◌, true, List, [], ◌∷◌, ◌++◌, Option, None, sym, subst}
-use Rattle.std.specs.Prelude.{is_some, IfSome}
+use Rattle.std.specs.Prelude.{is_some}
 use Rattle.wasm_codec.specs.formats.Grammar.{TakesBytes}
 use Rattle.wasm_codec.specs.Lawful.{IsLawful}
 use Rattle.wasm_codec.specs.formats.Combinators.{u32}
@@ -18,14 +18,14 @@ use Rattle.wasm_sections.specs.formats.Entries.{export_of, export_entry, import_
 use Rattle.wasm_externals.specs.declared.types.ExportKind.{ExportKind}
 use Rattle.wasm_sections.specs.formats.EntryParts.{ExportParts, ImportParts}
 use Rattle.wasm_externals.specs.ClosedExpressions.{IsClosed}
-use Rattle.wasm_sections.specs.ClosedEntries.{IsClosedGlobal, IsClosedTable}
+use Rattle.wasm_sections.specs.ClosedEntries.{IsClosedGlobal}
 use Rattle.wasm_sections.specs.declared.globals.Global.{Global}
 use Rattle.wasm_sections.specs.declared.tables.Table.{Table}
 use Rattle.wasm_externals.specs.declared.limits.TableType.{TableType}
 use Rattle.wasm_externals.specs.formats.Expressions.{expr}
 use Rattle.wasm_externals.specs.declared.types.ExportKind.TheVariants as kinds
 use Rattle.wasm_externals.proofs.NameLaws.{name_is_lawful, in_name}
-use Rattle.wasm_externals.proofs.ExternalLaws.{Lawful-entity-type, Lawful-export-kind, Lawful-table-type, Lawful-global-type, three, two, four}
+use Rattle.wasm_externals.proofs.ExternalLaws.{Lawful-entity-type, Lawful-export-kind, Lawful-table-type, Lawful-global-type, three, two}
 use Rattle.wasm_externals.proofs.ExpressionLaws.{expr_is_lawful, in_expr}
 
 pub export_is_lawful : IsLawful export_entry
@@ -97,18 +97,12 @@ import_appended i old one two new p q r = three old (name.bytes i.module_name) (
 
 -- ---- globals and tables
 
-pub global_appended : (g : Global) (calls : List Instruction) (old some new : List ℕ) → calls ≡ g.init → some ≡ old ++ global_type.bytes g.ty → new ≡ some ++ expr.bytes calls → new ≡ old ++ global_entry.bytes g
-unfolding global_entry
-global_appended g calls old some new these p q = rw (← these) (two old (global_type.bytes g.ty) (expr.bytes calls) some new p q)
-
 global_there : (g : Global) → global_type.InRange g.ty → expr.InRange g.init → global_entry.InRange g
 unfolding global_entry
 global_there g ty init = ((ty, init), refl)
 
-pub global_entry_written : (g : Global) (calls : List Instruction) → calls ≡ g.init → IsMinimal global_type.Encodes global_type.bytes g.ty → (IsClosed calls → IsMinimal expr.Encodes expr.bytes calls) → IsClosedGlobal g → IsMinimal global_entry.Encodes global_entry.bytes g
-global_entry_written g calls these ty init closed =
-    let whole : IsClosed g.init → IsMinimal expr.Encodes expr.bytes g.init = subst (λ (l : List Instruction). IsClosed l → IsMinimal expr.Encodes expr.bytes l) these init in
-    written global_is_lawful.minimal g (global_there g (in_range_of global_type Lawful-global-type g.ty ty) (in_expr g.init (whole closed)))
+pub global_entry_written : (g : Global) → IsMinimal global_type.Encodes global_type.bytes g.ty → (IsClosed g.init → IsMinimal expr.Encodes expr.bytes g.init) → IsClosedGlobal g → IsMinimal global_entry.Encodes global_entry.bytes g
+global_entry_written g ty init closed = written global_is_lawful.minimal g (global_there g (in_range_of global_type Lawful-global-type g.ty ty) (in_expr g.init (init closed)))
 
 unfilled_there : (ty : TableType) → table_type.InRange ty → table_entry.InRange (unfilled ty)
 unfolding table_entry
@@ -126,13 +120,5 @@ pub unfilled_written : (t : Table) → t.init ≡ None → IsMinimal table_type.
 unfilled_written t is h = subst (λ (o : Option (List Instruction)). IsMinimal table_entry.Encodes table_entry.bytes (record { ty = t.ty; init = o })) (sym is)
     (written table_is_lawful.minimal (unfilled t.ty) (unfilled_there t.ty (in_range_of table_type Lawful-table-type t.ty h)))
 
-pub filled_appended : (t : Table) (init calls : List Instruction) (old first second typed new : List ℕ) → t.init ≡ Some init → calls ≡ init → first ≡ old ++ 0x40 ∷ [] → second ≡ first ++ 0x00 ∷ [] → typed ≡ second ++ table_type.bytes t.ty → new ≡ typed ++ expr.bytes calls → new ≡ old ++ table_entry.bytes t
-unfolding table_entry
-filled_appended t init calls old first second typed new is these p q r s = rw (is, ← these) (four old (0x40 ∷ []) (0x00 ∷ []) (table_type.bytes t.ty) (expr.bytes calls) first second typed new p q r s)
-
-pub filled_written : (t : Table) (init calls : List Instruction) → t.init ≡ Some init → calls ≡ init → IsMinimal table_type.Encodes table_type.bytes t.ty → (IsClosed calls → IsMinimal expr.Encodes expr.bytes calls) → IsClosedTable t → IsMinimal table_entry.Encodes table_entry.bytes t
-filled_written t init calls is these ty made closed =
-    let whole : IsClosed init → IsMinimal expr.Encodes expr.bytes init = subst (λ (l : List Instruction). IsClosed l → IsMinimal expr.Encodes expr.bytes l) these made in
-    let ends : IsClosed init = subst (λ (o : Option (List Instruction)). IfSome o IsClosed) is closed in
-    subst (λ (o : Option (List Instruction)). IsMinimal table_entry.Encodes table_entry.bytes (record { ty = t.ty; init = o })) (sym is)
-    (written table_is_lawful.minimal (filled_of (t.ty, init)) (filled_there t.ty init (in_range_of table_type Lawful-table-type t.ty ty) (in_expr init (whole ends))))
+pub filled_written : (ty : TableType) (init : List Instruction) → IsMinimal table_type.Encodes table_type.bytes ty → (IsClosed init → IsMinimal expr.Encodes expr.bytes init) → IsClosed init → IsMinimal table_entry.Encodes table_entry.bytes (filled_of (ty, init))
+filled_written ty init least made closed = written table_is_lawful.minimal (filled_of (ty, init)) (filled_there ty init (in_range_of table_type Lawful-table-type ty least) (in_expr init (made closed)))

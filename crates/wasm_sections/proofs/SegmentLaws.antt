@@ -26,7 +26,6 @@ use Rattle.wasm_sections.specs.SegmentBytes.{table_and_offset_bytes, data_mode_b
 use Rattle.wasm_sections.specs.declared.data.DataSegmentMode.TheVariants as data_modes
 use Rattle.wasm_externals.proofs.PartCombinatorLaws.{Lawful-numbered, number_takes}
 use Rattle.wasm_externals.proofs.ExpressionLaws.{expr_is_lawful, in_expr}
-use Rattle.wasm_externals.proofs.ExternalLaws.{two}
 
 -- what is left out takes a byte at least
 pub left_out : {A : Type 0} {F : Format A} → IsLawful F → (bytes : List ℕ) (n : ℕ) (a : A) → (u32 ⊗ F).Encodes bytes (n, a) → F.InRange a × (length (F.bytes a) < length bytes)
@@ -166,28 +165,22 @@ number_there old start mid end memory mark begun named e at =
 
 -- ---- data segments
 
-pub data_mode_fits : (mode : DataSegmentMode) (memory : ℕ) (offset calls : List Instruction) → mode ≡ data_modes.Active memory offset → calls ≡ offset → memory < 2 ^ 32 → (IsClosed calls → IsMinimal expr.Encodes expr.bytes calls) → IsClosedData mode → DataModeFits mode
-data_mode_fits mode memory offset calls is these small made closed =
-    let whole : IsClosed offset → IsMinimal expr.Encodes expr.bytes offset = subst (λ (l : List Instruction). IsClosed l → IsMinimal expr.Encodes expr.bytes l) these made in
-    let ends : IsClosed offset = subst IsClosedData is closed in
-    subst DataModeFits (sym is) (small, in_expr offset (whole ends))
+pub data_mode_fits : (memory : ℕ) (offset : List Instruction) → memory < 2 ^ 32 → (IsClosed offset → IsMinimal expr.Encodes expr.bytes offset) → IsClosed offset → DataModeFits (data_modes.Active memory offset)
+data_mode_fits memory offset small made closed = (small, in_expr offset (made closed))
 
-pub first_memory_appended : (mode : DataSegmentMode) (memory : ℕ) (offset calls : List Instruction) (old new : List ℕ) → mode ≡ data_modes.Active memory offset → calls ≡ offset → memory ≡ 0 → new ≡ old ++ table_and_offset_bytes 0 None calls → new ≡ old ++ data_mode_bytes mode
-first_memory_appended mode memory offset calls old new is these first put = rw (is, first, ← these) put
+pub first_memory_bytes : (memory : ℕ) (offset : List Instruction) → memory ≡ 0 → table_and_offset_bytes 0 None offset ≡ data_mode_bytes (data_modes.Active memory offset)
+first_memory_bytes memory offset first = rw first refl
 
-pub other_memory_appended : (mode : DataSegmentMode) (memory : ℕ) (offset calls : List Instruction) (old new : List ℕ) → mode ≡ data_modes.Active memory offset → calls ≡ offset → eqb memory 0 ≡ false → new ≡ old ++ table_and_offset_bytes 2 (Some memory) calls → new ≡ old ++ data_mode_bytes mode
-other_memory_appended mode memory offset calls old new is these other put = rw (is, other, ← these) put
+pub other_memory_bytes : (memory : ℕ) (offset : List Instruction) → eqb memory 0 ≡ false → table_and_offset_bytes 2 (Some memory) offset ≡ data_mode_bytes (data_modes.Active memory offset)
+other_memory_bytes memory offset other = rw other refl
 
-data_bytes_are : (mode : DataSegmentMode) (bytes : List ℕ) → data_mode_bytes mode ++ byte_list_bytes bytes ≡ data_segment.bytes (record { mode = mode; data_bytes = bytes })
+pub data_bytes_are : (mode : DataSegmentMode) (bytes : List ℕ) → data_mode_bytes mode ++ byte_list_bytes bytes ≡ data_segment.bytes (record { mode = mode; data_bytes = bytes })
 unfolding data_segment part_if
 data_bytes_are data_modes.Passive bytes = refl
 data_bytes_are (data_modes.Active memory offset) bytes = by (eqb memory 0) refl where
   by : (t : Bool) → eqb memory 0 ≡ t → data_mode_bytes (data_modes.Active memory offset) ++ byte_list_bytes bytes ≡ data_segment.bytes (record { mode = data_modes.Active memory offset; data_bytes = bytes })
   by true is = rw is (append_assoc (unsigned_leb128 0) (expr.bytes offset) (byte_list_bytes bytes))
   by false is = rw is (append_assoc (unsigned_leb128 2) (unsigned_leb128 memory ++ expr.bytes offset) (byte_list_bytes bytes) ∙ ap (λ (l : List ℕ). unsigned_leb128 2 ++ l) (append_assoc (unsigned_leb128 memory) (expr.bytes offset) (byte_list_bytes bytes)))
-
-pub data_appended : (d : DataParts) (old some new : List ℕ) → some ≡ old ++ data_mode_bytes d.mode → new ≡ some ++ byte_list_bytes d.data_bytes → new ≡ old ++ data_segment.bytes d
-data_appended d old some new p q = two old (data_mode_bytes d.mode) (byte_list_bytes d.data_bytes) some new p q ∙ ap (λ (l : List ℕ). old ++ l) (data_bytes_are d.mode d.data_bytes)
 
 data_there : (mode : DataSegmentMode) (bytes : List ℕ) → DataModeFits mode → IsBytes bytes → IsCount (length bytes) → data_segment.InRange (record { mode = mode; data_bytes = bytes })
 unfolding data_segment

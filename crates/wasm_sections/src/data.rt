@@ -1,5 +1,5 @@
 //! Data sections (Core 3.0, Data Section).
-ghost use Rattle.std.specs.Prelude.{◌≡◌, List, length, refl, IfErr, ℕ, ◌++◌, OnOk, take, Some, IfSome};
+ghost use Rattle.std.specs.Prelude.{◌≡◌, refl, Some, IfSome};
 ghost use Rattle.wasm_codec.specs.Scanning.{Scans};
 ghost use Rattle.wasm_codec.specs.declared.rewriter.scan.Scanned.TheVariants.{Minimal};
 ghost use Rattle.wasm_codec.specs.Places.{Reads};
@@ -9,14 +9,15 @@ ghost use Rattle.wasm_codec.specs.formats.Grammar.{TakesBytes};
 ghost use Rattle.wasm_codec.specs.Lawful.{IsLawful};
 ghost use Rattle.wasm_codec.specs.Reading.{map_ok};
 ghost use Rattle.wasm_codec.specs.formats.Bodies.{byte_list};
-ghost use Rattle.wasm_codec.specs.formats.Combinators.{◌⊗◌, items};
+ghost use Rattle.wasm_codec.specs.formats.Combinators.{◌⊗◌};
 ghost use Rattle.wasm_sections.specs.formats.EntryParts.{DataParts, data_parts, all_data_parts};
 ghost use Rattle.wasm_sections.specs.SegmentBytes.{active_parts};
 ghost use Rattle.wasm_sections.specs.declared.data.DataSegmentMode.TheVariants as data_modes;
 ghost use Rattle.wasm_externals.specs.ClosedExpressions.{IsClosed, IsCountedExpr};
 ghost use Rattle.wasm_externals.specs.formats.Expressions.{expr};
 ghost use Rattle.wasm_sections.specs.formats.Segments.{data_segment, active_data, passive_data};
-ghost use Rattle.wasm_codec.specs.Encoding.{IsRefusal, IsMinimal, OnlyTooLong};
+ghost use Rattle.wasm_codec.specs.Appending.{Appends, AppendsIfClosed};
+ghost use Rattle.wasm_codec.specs.Encoding.{IsMinimal, OnlyTooLong};
 ghost use Rattle.wasm_sections.specs.ClosedEntries.{IsClosedData, IsCountedData, IsCountedDataMode};
 ghost use Rattle.wasm_sections.specs.SegmentBytes.{DataModeFits, data_mode_bytes};
 ghost use Rattle.wasm_sections.specs.SectionKinds.{data_section};
@@ -224,11 +225,7 @@ fn append_data_mode<A: Allocator>(
     mode: &DataSegmentMode,
     sink: &mut Vec<u8, A>,
 ) -> Result<(), EncodeError>
-    ensures ok { OnOk result (sink.new.items ≡ sink.old.items ++ data_mode_bytes mode.now) }
-    ensures can { OnOk result (IsCountedDataMode mode.now) }
-    ensures fits { OnOk result (IsClosedData mode.now → DataModeFits mode.now) }
-    ensures refused { IfErr result (IsRefusal IsCountedDataMode OnlyTooLong mode.now) }
-    ensures kept { take (length sink.old.items) sink.new.items ≡ sink.old.items }
+    ensures { Appends (data_mode_bytes mode.now) (IsCountedDataMode mode.now) (IsClosedData mode.now → DataModeFits mode.now) sink.old.items sink.new.items result }
 {
     match mode {
         DataSegmentMode::Active {
@@ -250,11 +247,8 @@ fn append_active_mode<A: Allocator>(
     offset: &[Call],
     sink: &mut Vec<u8, A>,
 ) -> Result<(), EncodeError>
-    ensures ok { OnOk result (sink.new.items ≡ sink.old.items ++ data_mode_bytes (data_modes.Active memory_index offset.now)) }
-    ensures can { OnOk result (IsCountedExpr offset.now) }
-    ensures fits { OnOk result (IsClosed offset.now → DataModeFits (data_modes.Active memory_index offset.now)) }
-    ensures refused { IfErr result (IsRefusal IsCountedExpr OnlyTooLong offset.now) }
-    ensures kept { take (length sink.old.items) sink.new.items ≡ sink.old.items }
+    ensures { Appends (data_mode_bytes (data_modes.Active memory_index offset.now)) (IsCountedExpr offset.now)
+        (IsClosed offset.now → DataModeFits (data_modes.Active memory_index offset.now)) sink.old.items sink.new.items result }
 {
     if memory_index == 0 {
         append_table_and_offset(0, None, offset, sink)
@@ -268,12 +262,7 @@ fn append_data_segment<A: Allocator>(
     segment: &DataSegment<'_>,
     sink: &mut Vec<u8, A>,
 ) -> Result<(), EncodeError>
-    ensures ok { OnOk result (sink.new.items ≡ sink.old.items ++ data_segment.bytes (data_parts segment.now)) }
-    ensures can { OnOk result (IsCountedData (data_parts segment.now)) }
-    ensures written { OnOk result (IsClosedData segment.now.mode →
-        IsMinimal data_segment.Encodes data_segment.bytes (data_parts segment.now)) }
-    ensures refused { IfErr result (IsRefusal (λ d. IsCountedData (data_parts d)) OnlyTooLong segment.now) }
-    ensures kept { take (length sink.old.items) sink.new.items ≡ sink.old.items }
+    ensures { AppendsIfClosed data_segment (data_parts segment.now) (IsCountedData (data_parts segment.now)) (IsClosedData segment.now.mode) sink.old.items sink.new.items result }
 {
     are_bytes(segment.bytes);
     append_data_mode(&segment.mode, sink)?;
@@ -333,12 +322,7 @@ fn append_active<A: Allocator>(
     segment: &ActiveData<'_>,
     sink: &mut Vec<u8, A>,
 ) -> Result<(), EncodeError>
-    ensures ok { OnOk result (sink.new.items ≡ sink.old.items ++ data_segment.bytes (active_parts segment.now)) }
-    ensures can { OnOk result (IsCountedData (active_parts segment.now)) }
-    ensures written { OnOk result (IsClosed segment.now.offset.now →
-        IsMinimal data_segment.Encodes data_segment.bytes (active_parts segment.now)) }
-    ensures refused { IfErr result (IsRefusal (λ d. IsCountedData (active_parts d)) OnlyTooLong segment.now) }
-    ensures kept { take (length sink.old.items) sink.new.items ≡ sink.old.items }
+    ensures { AppendsIfClosed data_segment (active_parts segment.now) (IsCountedData (active_parts segment.now)) (IsClosed segment.now.offset.now) sink.old.items sink.new.items result }
 {
     are_bytes(segment.bytes);
     append_active_mode(segment.memory_index, segment.offset, sink)?;

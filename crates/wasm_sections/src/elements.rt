@@ -10,7 +10,8 @@ ghost use Rattle.wasm_types.specs.formats.Types.{ref_type};
 ghost use Rattle.wasm_instructions.specs.formats.Instructions.{Instruction};
 ghost use Rattle.wasm_externals.specs.formats.Expressions.{expr};
 ghost use Rattle.std.specs.List.{All, Any, flat_map};
-ghost use Rattle.wasm_codec.specs.Encoding.{CanEncodeList, IsListRefusal, IsRefusal, IsMinimal, OnlyTooLong, Refuses};
+ghost use Rattle.wasm_codec.specs.Appending.{Appends, AppendsIfClosed};
+ghost use Rattle.wasm_codec.specs.Encoding.{CanEncodeList, IsListRefusal, IsMinimal, OnlyTooLong, Refuses};
 ghost use Rattle.wasm_codec.specs.declared.encode.EncodeError.TheVariants.{Memory};
 ghost use Rattle.wasm_sections.specs.ClosedEntries.{AreClosed, AreCounted, IsClosedElement, IsClosedMode, IsCountedElement, IsCountedMode};
 ghost use Rattle.wasm_externals.specs.ClosedExpressions.{IsClosed, IsCountedExpr, IsWrittenExpr};
@@ -414,11 +415,7 @@ fn append_element_mode<A: Allocator>(
     mode: &ElementMode,
     sink: &mut Vec<u8, A>,
 ) -> Result<(), EncodeError>
-    ensures ok { OnOk result (sink.new.items ≡ sink.old.items ++ element_mode_bytes form mode.now) }
-    ensures can { OnOk result (IsCountedMode mode.now) }
-    ensures fits { OnOk result (IsClosedMode mode.now → ElementModeFits form mode.now) }
-    ensures refused { IfErr result (IsRefusal IsCountedMode OnlyTooLong mode.now) }
-    ensures kept { take (length sink.old.items) sink.new.items ≡ sink.old.items }
+    ensures { Appends (element_mode_bytes form mode.now) (IsCountedMode mode.now) (IsClosedMode mode.now → ElementModeFits form mode.now) sink.old.items sink.new.items result }
 {
     match mode {
         ElementMode::Active {
@@ -441,11 +438,8 @@ fn append_active_mode<A: Allocator>(
     offset: &[Call],
     sink: &mut Vec<u8, A>,
 ) -> Result<(), EncodeError>
-    ensures ok { OnOk result (sink.new.items ≡ sink.old.items ++ element_mode_bytes form (modes.Active table_index offset.now)) }
-    ensures can { OnOk result (IsCountedExpr offset.now) }
-    ensures fits { OnOk result (IsClosed offset.now → ElementModeFits form (modes.Active table_index offset.now)) }
-    ensures refused { IfErr result (IsRefusal IsCountedExpr OnlyTooLong offset.now) }
-    ensures kept { take (length sink.old.items) sink.new.items ≡ sink.old.items }
+    ensures { Appends (element_mode_bytes form (modes.Active table_index offset.now)) (IsCountedExpr offset.now)
+        (IsClosed offset.now → ElementModeFits form (modes.Active table_index offset.now)) sink.old.items sink.new.items result }
 {
     if is_short(form) {
         append_table_and_offset(form, None, offset, sink)
@@ -509,11 +503,7 @@ fn append_elements<A: Allocator>(
     elements: &Elements,
     sink: &mut Vec<u8, A>,
 ) -> Result<(), EncodeError>
-    ensures ok { OnOk result (sink.new.items ≡ sink.old.items ++ elements_bytes short elements.now) }
-    ensures can { OnOk result (AreCounted elements.now) }
-    ensures fits { OnOk result (AreClosed elements.now → ElementsFit short elements.now) }
-    ensures refused { IfErr result (IsRefusal AreCounted OnlyTooLong elements.now) }
-    ensures kept { take (length sink.old.items) sink.new.items ≡ sink.old.items }
+    ensures { Appends (elements_bytes short elements.now) (AreCounted elements.now) (AreClosed elements.now → ElementsFit short elements.now) sink.old.items sink.new.items result }
 {
     match elements {
         Elements::Functions(functions) => {
@@ -536,12 +526,7 @@ fn append_elements<A: Allocator>(
 
 /// Appends an element segment. On error a part of it may remain.
 fn append_element<A: Allocator>(element: &Element, sink: &mut Vec<u8, A>) -> Result<(), EncodeError>
-    ensures ok { OnOk result (sink.new.items ≡ sink.old.items ++ element_segment.bytes element.now) }
-    ensures can { OnOk result (IsCountedElement element.now) }
-    ensures written { OnOk result (IsClosedElement element.now →
-        IsMinimal element_segment.Encodes element_segment.bytes element.now) }
-    ensures refused { IfErr result (IsRefusal IsCountedElement OnlyTooLong element.now) }
-    ensures kept { take (length sink.old.items) sink.new.items ≡ sink.old.items }
+    ensures { AppendsIfClosed element_segment element.now (IsCountedElement element.now) (IsClosedElement element.now) sink.old.items sink.new.items result }
 {
     let form = number_of(element);
     append_element_mode(form, &element.mode, sink)?;
@@ -601,12 +586,7 @@ fn append_active<A: Allocator>(
     segment: &ActiveElement<'_>,
     sink: &mut Vec<u8, A>,
 ) -> Result<(), EncodeError>
-    ensures ok { OnOk result (sink.new.items ≡ sink.old.items ++ element_segment.bytes (active_element segment.now)) }
-    ensures can { OnOk result (IsCountedElement (active_element segment.now)) }
-    ensures written { OnOk result (IsClosedElement (active_element segment.now) →
-        IsMinimal element_segment.Encodes element_segment.bytes (active_element segment.now)) }
-    ensures refused { IfErr result (IsRefusal (λ e. IsCountedElement (active_element e)) OnlyTooLong segment.now) }
-    ensures kept { take (length sink.old.items) sink.new.items ≡ sink.old.items }
+    ensures { AppendsIfClosed element_segment (active_element segment.now) (IsCountedElement (active_element segment.now)) (IsClosedElement (active_element segment.now)) sink.old.items sink.new.items result }
 {
     let form = number_of_active(segment);
     append_active_mode(form, segment.table_index, segment.offset, sink)?;

@@ -1,5 +1,5 @@
 //! Export sections (Core 3.0, Export Section).
-ghost use Rattle.std.specs.Prelude.{◌≡◌, refl, IfErr, ◌++◌, OnOk, length, take, Some, IfSome};
+ghost use Rattle.std.specs.Prelude.{◌≡◌, refl, IfErr, length, Some, IfSome};
 ghost use Rattle.wasm_codec.specs.Scanning.{Scans};
 ghost use Rattle.wasm_codec.specs.declared.rewriter.scan.Scanned.TheVariants.{Minimal};
 ghost use Rattle.wasm_codec.specs.Inputs.{Passes};
@@ -10,7 +10,8 @@ ghost use Rattle.wasm_codec.specs.formats.Grammar.{TakesBytes};
 ghost use Rattle.wasm_codec.specs.Lawful.{IsLawful};
 ghost use Rattle.wasm_sections.specs.formats.EntryParts.{ExportParts, export_parts, all_export_parts};
 ghost use Rattle.wasm_sections.specs.formats.Entries.{export_entry, export_of};
-ghost use Rattle.wasm_codec.specs.Encoding.{IsCount, IsCountRefusal, IsMinimal, OnlyTooLong};
+ghost use Rattle.wasm_codec.specs.Appending.{AppendsMinimal};
+ghost use Rattle.wasm_codec.specs.Encoding.{IsCount, IsMinimal, OnlyTooLong};
 ghost use Rattle.wasm_externals.specs.formats.Names.{name};
 ghost use Rattle.wasm_sections.specs.SectionKinds.{export_section};
 ghost use Rattle.wasm_sections.specs.ListSections.{AddsOr, IsUncounted, LawfulEntry};
@@ -110,11 +111,7 @@ fn append_export<A: Allocator>(
     export: &Export<'_>,
     sink: &mut Vec<u8, A>,
 ) -> Result<(), EncodeError>
-    ensures ok { OnOk result (sink.new.items ≡ sink.old.items ++ export_entry.bytes (export_parts export.now)) }
-    ensures can { OnOk result (IsCount (length export.now.name.now)) }
-    ensures written { OnOk result (IsMinimal export_entry.Encodes export_entry.bytes (export_parts export.now)) }
-    ensures refused { IfErr result (IsCountRefusal (length export.now.name.now)) }
-    ensures kept { take (length sink.old.items) sink.new.items ≡ sink.old.items }
+    ensures { AppendsMinimal export_entry (export_parts export.now) (IsCount (length export.now.name.now)) sink.old.items sink.new.items result }
 {
     append_name(export.name, sink)?;
     sink.reserve(6)?;

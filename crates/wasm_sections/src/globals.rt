@@ -1,12 +1,13 @@
 //! Global sections (Core 3.0, Global Section).
-ghost use Rattle.std.specs.Prelude.{refl, ◌≡◌, ◌++◌, OnOk, IfErr, length, take, Some, IfSome};
+ghost use Rattle.std.specs.Prelude.{refl, Some, IfSome};
 ghost use Rattle.wasm_codec.specs.Scanning.{Scans};
 ghost use Rattle.wasm_codec.specs.declared.rewriter.scan.Scanned.TheVariants.{Minimal};
 ghost use Rattle.wasm_codec.specs.Places.{Reads};
 ghost use Rattle.wasm_codec.specs.Rewriter.{Rewrites};
 ghost use Rattle.wasm_sections.specs.declared.globals.Global.{Global};
 ghost use Rattle.wasm_sections.specs.formats.Entries.{global_entry, global_of};
-ghost use Rattle.wasm_codec.specs.Encoding.{IsRefusal, IsMinimal, OnlyTooLong};
+ghost use Rattle.wasm_codec.specs.Appending.{AppendsIfClosed};
+ghost use Rattle.wasm_codec.specs.Encoding.{IsMinimal, OnlyTooLong};
 ghost use Rattle.wasm_externals.specs.ClosedExpressions.{IsClosed, IsCountedExpr};
 ghost use Rattle.wasm_sections.specs.ClosedEntries.{IsClosedGlobal, IsCountedGlobal};
 ghost use Rattle.wasm_sections.specs.SectionKinds.{global_section};
@@ -101,12 +102,7 @@ fn append_global<A: Allocator>(
     init: &[Call],
     sink: &mut Vec<u8, A>,
 ) -> Result<(), EncodeError>
-    ensures ok { OnOk result (sink.new.items ≡ sink.old.items ++ global_entry.bytes (global_of (ty, init.now))) }
-    ensures can { OnOk result (IsCountedExpr init.now) }
-    ensures written { OnOk result (IsClosed init.now →
-        IsMinimal global_entry.Encodes global_entry.bytes (global_of (ty, init.now))) }
-    ensures refused { IfErr result (IsRefusal IsCountedExpr OnlyTooLong init.now) }
-    ensures kept { take (length sink.old.items) sink.new.items ≡ sink.old.items }
+    ensures { AppendsIfClosed global_entry (global_of (ty, init.now)) (IsCountedExpr init.now) (IsClosed init.now) sink.old.items sink.new.items result }
 {
     sink.reserve(8)?;
     put_global_type(sink, ty);

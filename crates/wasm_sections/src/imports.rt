@@ -1,5 +1,5 @@
 //! Import sections (Core 3.0, Import Section).
-ghost use Rattle.std.specs.Prelude.{◌≡◌, refl, IfErr, ◌++◌, OnOk, length, take, ◌⊎◌, Some, IfSome};
+ghost use Rattle.std.specs.Prelude.{◌≡◌, refl, IfErr, length, ◌⊎◌, Some, IfSome};
 ghost use Rattle.wasm_codec.specs.Scanning.{Scans};
 ghost use Rattle.wasm_codec.specs.declared.rewriter.scan.Scanned.TheVariants.{Minimal};
 ghost use Rattle.wasm_codec.specs.Inputs.{Passes};
@@ -10,7 +10,8 @@ ghost use Rattle.wasm_codec.specs.formats.Grammar.{TakesBytes};
 ghost use Rattle.wasm_codec.specs.Lawful.{IsLawful};
 ghost use Rattle.wasm_sections.specs.formats.EntryParts.{ImportParts, import_parts, all_import_parts};
 ghost use Rattle.wasm_sections.specs.formats.Entries.{import_entry, import_of};
-ghost use Rattle.wasm_codec.specs.Encoding.{IsCount, IsRefusal, IsMinimal, OnlyTooLong};
+ghost use Rattle.wasm_codec.specs.Appending.{AppendsMinimal};
+ghost use Rattle.wasm_codec.specs.Encoding.{IsCount, IsMinimal, OnlyTooLong};
 ghost use Rattle.wasm_sections.specs.SectionKinds.{import_section};
 ghost use Rattle.wasm_sections.specs.ListSections.{AddsOr, IsUncounted, LawfulEntry};
 
@@ -122,11 +123,7 @@ fn append_import<A: Allocator>(
     import: &Import<'_>,
     sink: &mut Vec<u8, A>,
 ) -> Result<(), EncodeError>
-    ensures ok { OnOk result (sink.new.items ≡ sink.old.items ++ import_entry.bytes (import_parts import.now)) }
-    ensures can { OnOk result (IsCount (length import.now.module.now) × IsCount (length import.now.field.now)) }
-    ensures written { OnOk result (IsMinimal import_entry.Encodes import_entry.bytes (import_parts import.now)) }
-    ensures refused { IfErr result (IsRefusal (λ i. IsCount (length i.module.now) × IsCount (length i.field.now)) OnlyTooLong import.now) }
-    ensures kept { take (length sink.old.items) sink.new.items ≡ sink.old.items }
+    ensures { AppendsMinimal import_entry (import_parts import.now) (IsCount (length import.now.module.now) × IsCount (length import.now.field.now)) sink.old.items sink.new.items result }
 {
     append_name(import.module, sink)?;
     append_name(import.field, sink)?;

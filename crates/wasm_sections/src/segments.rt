@@ -1,9 +1,9 @@
 //! What data segments and element segments share (Core 3.0, Data Section and Element Section).
-ghost use Rattle.std.specs.Prelude.{◌≡◌, ◌++◌, OnOk, IfErr, IfSome, length, take};
+ghost use Rattle.std.specs.Prelude.{IfSome};
 ghost use Rattle.wasm_codec.specs.Leb128.{unsigned_leb128};
 ghost use Rattle.wasm_codec.specs.formats.Numbers.{EncodesU32};
-ghost use Rattle.wasm_codec.specs.Encoding.{IsRefusal, IsMinimal, OnlyTooLong};
-ghost use Rattle.wasm_codec.specs.formats.Combinators.{items};
+ghost use Rattle.wasm_codec.specs.Appending.{Appends};
+ghost use Rattle.wasm_codec.specs.Encoding.{IsMinimal};
 ghost use Rattle.wasm_externals.specs.ClosedExpressions.{IsClosed, IsCountedExpr};
 ghost use Rattle.wasm_sections.specs.SegmentBytes.{table_and_offset_bytes};
 ghost use Rattle.wasm_externals.specs.formats.Expressions.{expr};
@@ -24,12 +24,9 @@ pub(crate) fn append_table_and_offset<A: Allocator>(
     offset: &[Call],
     sink: &mut Vec<u8, A>,
 ) -> Result<(), EncodeError>
-    ensures ok { OnOk result (sink.new.items ≡ sink.old.items ++ table_and_offset_bytes form index offset.now) }
-    ensures can { OnOk result (IsCountedExpr offset.now) }
-    ensures index { OnOk result (IfSome index (IsMinimal EncodesU32 unsigned_leb128)) }
-    ensures written { OnOk result (IsClosed offset.now → IsMinimal expr.Encodes expr.bytes offset.now) }
-    ensures refused { IfErr result (IsRefusal IsCountedExpr OnlyTooLong offset.now) }
-    ensures kept { take (length sink.old.items) sink.new.items ≡ sink.old.items }
+    ensures { Appends (table_and_offset_bytes form index offset.now) (IsCountedExpr offset.now)
+        (IfSome index (IsMinimal EncodesU32 unsigned_leb128) × (IsClosed offset.now → IsMinimal expr.Encodes expr.bytes offset.now))
+        sink.old.items sink.new.items result }
 {
     sink.reserve(10)?;
     put_u32(sink, form);

@@ -1,10 +1,11 @@
 //! Table sections (Core 3.0, Table Section).
-ghost use Rattle.std.specs.Prelude.{refl, ◌≡◌, ◌++◌, OnOk, IfErr, length, take};
+ghost use Rattle.std.specs.Prelude.{refl};
 ghost use Rattle.wasm_codec.specs.Places.{Reads};
 ghost use Rattle.wasm_codec.specs.Rewriter.{Rewrites};
 ghost use Rattle.wasm_sections.specs.declared.tables.Table.{Table};
 ghost use Rattle.wasm_sections.specs.formats.Entries.{table_entry, filled_of, unfilled};
-ghost use Rattle.wasm_codec.specs.Encoding.{IsRefusal, IsMinimal, OnlyTooLong};
+ghost use Rattle.wasm_codec.specs.Appending.{AppendsIfClosed};
+ghost use Rattle.wasm_codec.specs.Encoding.{IsMinimal, OnlyTooLong};
 ghost use Rattle.wasm_externals.specs.ClosedExpressions.{IsClosed, IsCountedExpr};
 ghost use Rattle.wasm_sections.specs.ClosedEntries.{IsClosedTable, IsCountedTable};
 ghost use Rattle.wasm_sections.specs.SectionKinds.{table_section};
@@ -94,11 +95,7 @@ impl<'a> Readable<'a> for Table {
 
 /// Appends a table. On error a part of it may remain.
 fn append_table<A: Allocator>(table: &Table, sink: &mut Vec<u8, A>) -> Result<(), EncodeError>
-    ensures ok { OnOk result (sink.new.items ≡ sink.old.items ++ table_entry.bytes table.now) }
-    ensures can { OnOk result (IsCountedTable table.now) }
-    ensures written { OnOk result (IsClosedTable table.now → IsMinimal table_entry.Encodes table_entry.bytes table.now) }
-    ensures refused { IfErr result (IsRefusal IsCountedTable OnlyTooLong table.now) }
-    ensures kept { take (length sink.old.items) sink.new.items ≡ sink.old.items }
+    ensures { AppendsIfClosed table_entry table.now (IsCountedTable table.now) (IsClosedTable table.now) sink.old.items sink.new.items result }
 {
     let Some(init) = &table.init else {
         sink.reserve(28)?;
@@ -114,12 +111,7 @@ fn append_filled<A: Allocator>(
     init: &[Call],
     sink: &mut Vec<u8, A>,
 ) -> Result<(), EncodeError>
-    ensures ok { OnOk result (sink.new.items ≡ sink.old.items ++ table_entry.bytes (filled_of (ty.now, init.now))) }
-    ensures can { OnOk result (IsCountedExpr init.now) }
-    ensures written { OnOk result (IsClosed init.now →
-        IsMinimal table_entry.Encodes table_entry.bytes (filled_of (ty.now, init.now))) }
-    ensures refused { IfErr result (IsRefusal IsCountedExpr OnlyTooLong init.now) }
-    ensures kept { take (length sink.old.items) sink.new.items ≡ sink.old.items }
+    ensures { AppendsIfClosed table_entry (filled_of (ty.now, init.now)) (IsCountedExpr init.now) (IsClosed init.now) sink.old.items sink.new.items result }
 {
     sink.reserve(30)?;
     sink.push_reserved(0x40);
