@@ -1,12 +1,11 @@
 -- The laws of core dump sections, but for stacks, and what is written of them.
-use Rattle.std.proofs.Common.{◌≡◌, ℕ, ◌+◌, ◌<◌, ◌≤◌, ◌^◌, ◌⊎◌, List, [], ◌∷◌, ◌++◌, length, length-append, Some, Result, OnOk, OnErr, IfErr, refl, lit≤, arith}
+use Rattle.std.proofs.Common.{◌≡◌, ℕ, ◌+◌, ◌<◌, ◌≤◌, ◌^◌, ◌⊎◌, List, ◌++◌, length, length-append, Some, Result, OnOk, OnErr, IfErr, refl, lit≤, arith}
 use Rattle.std.specs.List.{All}
 use Rattle.wasm_codec.specs.declared.encode.EncodeError.{EncodeError}
 use Rattle.wasm_codec.specs.declared.encode.EncodeError.TheVariants.{Memory, TooLong}
 use Rattle.wasm_codec.specs.Encoding.{IsCount, IsMinimal}
 use Rattle.wasm_codec.specs.Lawful.{IsLawful, IsLawfulBody}
 use Rattle.wasm_codec.specs.Leb128.{unsigned_leb128}
-use Rattle.wasm_codec.specs.Lists.{items_bytes}
 use Rattle.wasm_codec.specs.formats.Combinators.{items, u32}
 use Rattle.wasm_codec.specs.formats.Grammar.{TakesBytes}
 use Rattle.wasm_codec.specs.formats.Numbers.{EncodesU32}
@@ -15,7 +14,6 @@ use Rattle.wasm_codec.proofs.FormatLaws.{Lawful-after, Lawful-both, Lawful-items
 use Rattle.wasm_codec.proofs.NumberLaws.{written}
 use Rattle.wasm_externals.specs.formats.Names.{name}
 use Rattle.wasm_externals.proofs.NameLaws.{name_is_lawful, in_name}
-use Rattle.wasm_externals.proofs.ExternalLaws.{four, two}
 use Rattle.wasm_lists.specs.EncodedLists.{EncodedItems, IsFull, IsMemoryOrTooLong, IsUncounted}
 use Rattle.wasm_lists.proofs.EncodedListLaws.{all_in_range, both_or, counted_or, which}
 use Rattle.wasm_lists.proofs.WrittenLists.{in_range_of}
@@ -48,10 +46,6 @@ core_name_there text fits = fits
 pub core_name_written : (text : List ℕ) → IsMinimal name.Encodes name.bytes text → IsMinimal core_name.Encodes core_name.bytes text
 core_name_written text h = written core_name_is_lawful.minimal text (core_name_there text (in_name text h))
 
-pub core_name_appended : (text old one new : List ℕ) → one ≡ old ++ 0x00 ∷ [] → new ≡ one ++ name.bytes text → new ≡ old ++ core_name.bytes text
-unfolding core_name
-core_name_appended text old one new p q = two old (0x00 ∷ []) (name.bytes text) one new p q
-
 pub adds_module : (was old new : EncodedItems) (text : List ℕ) (r : Result (Unit {0}) EncodeError) → was ≡ old → OnOk r (new.count ≡ was.count + 1) → OnOk r (new.bytes ≡ was.bytes ++ core_name.bytes text)
     → OnOk r (IsMinimal core_name.Encodes core_name.bytes text) → OnErr r (new ≡ was) → IfErr r (IsRefused (IsCount (length text)) was) → AddsNamed core_name (length text) old text new r
 adds_module was old new text r same count bytes written unchanged refusal = adds_named core_name_is_lawful was old new text r same text count bytes written unchanged refusal
@@ -77,10 +71,6 @@ indices_fit indices few all = (few, by_recursion u32.InRange indices (all_in_ran
 pub instance_written : (i : CoreDumpInstance) → IsMinimal EncodesU32 unsigned_leb128 i.module_index → IsCount (length i.memories) → All (IsMinimal EncodesU32 unsigned_leb128) i.memories → IsCount (length i.globals) → All (IsMinimal EncodesU32 unsigned_leb128) i.globals
     → IsMinimal core_instance.Encodes core_instance.bytes i
 instance_written i index few memories count globals = written instance_is_lawful.minimal i (instance_there i (in_range_of u32 Lawful-u32 i.module_index index) (indices_fit i.memories few memories) (indices_fit i.globals count globals))
-
-pub instance_appended : (i : CoreDumpInstance) (old one two three new : List ℕ) → one ≡ old ++ 0x00 ∷ [] → two ≡ one ++ unsigned_leb128 i.module_index → three ≡ two ++ items_bytes unsigned_leb128 i.memories → new ≡ three ++ items_bytes unsigned_leb128 i.globals → new ≡ old ++ core_instance.bytes i
-unfolding core_instance
-instance_appended i old a b c new p q r s = four old (0x00 ∷ []) (unsigned_leb128 i.module_index) (items_bytes unsigned_leb128 i.memories) (items_bytes unsigned_leb128 i.globals) a b c new p q r s
 
 pub adds_instance : (was old new : EncodedItems) (i : CoreDumpInstance) (r : Result (Unit {0}) EncodeError) → was ≡ old → OnOk r (new.count ≡ was.count + 1) → OnOk r (new.bytes ≡ was.bytes ++ core_instance.bytes i)
     → OnOk r (IsMinimal core_instance.Encodes core_instance.bytes i) → OnErr r (new ≡ was) → IfErr r (IsRefused (IsCount (length i.memories) × IsCount (length i.globals)) was)

@@ -1,12 +1,11 @@
 -- The laws of the stacks in core dumps, and what is written of them.
-use Rattle.std.proofs.Common.{◌≡◌, ℕ, ◌+◌, ◌<◌, ◌≤◌, ◌^◌, ◌⊎◌, List, [], ◌∷◌, ◌++◌, length, length-append, Some, Result, OnOk, OnErr, IfErr, refl, sym, ap, ◌∙◌, lit≤, arith}
+use Rattle.std.proofs.Common.{◌≡◌, ℕ, ◌+◌, ◌<◌, ◌≤◌, ◌^◌, ◌⊎◌, List, ◌∷◌, ◌++◌, length, length-append, Some, Result, OnOk, OnErr, IfErr, refl, sym, ap, ◌∙◌, lit≤, arith}
 use Rattle.std.specs.List.{All}
 use Rattle.wasm_codec.specs.declared.encode.EncodeError.{EncodeError}
 use Rattle.wasm_codec.specs.declared.encode.EncodeError.TheVariants.{Memory, TooLong}
 use Rattle.wasm_codec.specs.Encoding.{IsCount, IsMinimal}
 use Rattle.wasm_codec.specs.Lawful.{IsLawful, IsLawfulBody}
 use Rattle.wasm_codec.specs.Leb128.{unsigned_leb128}
-use Rattle.wasm_codec.specs.Lists.{items_bytes}
 use Rattle.wasm_codec.specs.formats.Combinators.{items, u32}
 use Rattle.wasm_codec.specs.formats.Grammar.{TakesBytes}
 use Rattle.wasm_codec.specs.formats.Numbers.{EncodesU32}
@@ -15,7 +14,6 @@ use Rattle.wasm_codec.proofs.FormatLaws.{Lawful-after, Lawful-both, Lawful-items
 use Rattle.wasm_codec.proofs.NumberLaws.{written}
 use Rattle.wasm_externals.specs.formats.Names.{name}
 use Rattle.wasm_externals.proofs.NameLaws.{name_is_lawful, in_name}
-use Rattle.wasm_externals.proofs.ExternalLaws.{four, three}
 use Rattle.wasm_lists.specs.EncodedLists.{EncodedItems, IsFull, IsMemoryOrTooLong, IsUncounted, body_bytes}
 use Rattle.wasm_lists.proofs.EncodedListLaws.{all_in_range, both_or, counted_or, which}
 use Rattle.wasm_lists.proofs.WrittenLists.{in_range_of}
@@ -58,15 +56,6 @@ module _ (f : CoreDumpStackFrame) where
   frame_written instance function offset few locals count stack =
       written frame_is_lawful.minimal f (frame_there (in_u32 f.instance_index instance) (in_u32 f.function_index function) (in_u32 f.code_offset offset) (values_fit f.locals few locals) (values_fit f.stack count stack))
 
-  pub frame_appended : (old one two three four five new : List ℕ) → one ≡ old ++ 0x00 ∷ [] → two ≡ one ++ unsigned_leb128 f.instance_index → three ≡ two ++ unsigned_leb128 f.function_index → four ≡ three ++ unsigned_leb128 f.code_offset
-      → five ≡ four ++ items_bytes core_value.bytes f.locals → new ≡ five ++ items_bytes core_value.bytes f.stack → new ≡ old ++ core_frame.bytes f
-  unfolding core_frame
-  frame_appended old a b c d e new p q r s t u =
-      let offset = unsigned_leb128 f.code_offset in
-      let locals = items_bytes core_value.bytes f.locals in
-      let stack = items_bytes core_value.bytes f.stack in
-      four old (0x00 ∷ []) (unsigned_leb128 f.instance_index) (unsigned_leb128 f.function_index) (offset ++ (locals ++ stack)) a b c new p q r (three c offset locals stack d e new s t u)
-
   pub adds_frame : (was old new : EncodedItems) (r : Result (Unit {0}) EncodeError) → was ≡ old → OnOk r (new.count ≡ was.count + 1) → OnOk r (new.bytes ≡ was.bytes ++ core_frame.bytes f)
       → OnOk r (IsMinimal core_frame.Encodes core_frame.bytes f) → OnErr r (new ≡ was) → IfErr r (IsRefused (IsCount (length f.locals) × IsCount (length f.stack)) was)
       → Adds (GainsItem core_frame) old f new (IsMemoryOrTooLong (IsFull old ⊎ (IsUncounted (length f.locals) ⊎ IsUncounted (length f.stack)))) r
@@ -100,9 +89,6 @@ stack_holds built text few frames stands =
     let is : stack_bytes built ≡ core_stack.bytes s = ap (λ (t : List ℕ). 0x00 ∷ (name.bytes built.name ++ t)) (inner_is core_frame built.frames frames stands) ∙ sym (stack_bytes_are s) in
     let fits = stack_there s (in_name built.name text) (inner_in_range core_frame built.frames frames few stands) in
     (rw is (stack_is_lawful.minimal.encodes s fits), is)
-
-pub stack_appended : (built : BuiltStack) (old one two new : List ℕ) → one ≡ old ++ 0x00 ∷ [] → two ≡ one ++ name.bytes built.name → new ≡ two ++ body_bytes built.frames → new ≡ old ++ stack_bytes built
-stack_appended built old a b new p q r = three old (0x00 ∷ []) (name.bytes built.name) (body_bytes built.frames) a b new p q r
 
 module _ (built : BuiltStack) where
   name_within : length built.name ≤ length (stack_bytes built)

@@ -9,7 +9,6 @@ use Rattle.wasm_codec.proofs.FormatLaws.{IsFound, Lawful-both, Lawful-made, Lawf
 use Rattle.wasm_codec.proofs.NumberLaws.{written}
 use Rattle.wasm_externals.specs.formats.Names.{name}
 use Rattle.wasm_externals.proofs.NameLaws.{name_is_lawful, in_name}
-use Rattle.wasm_externals.proofs.ExternalLaws.{two}
 use Rattle.wasm_lists.specs.EncodedLists.{EncodedItems}
 use Rattle.wasm_custom_sections.specs.Gaining.{AddsNamed}
 use Rattle.wasm_custom_sections.specs.declared.target_features.FeaturePrefix.{FeaturePrefix}
@@ -45,10 +44,6 @@ feature_there f fits = ((prefix_there f.prefix, fits), refl)
 
 pub feature_written : (f : FeatureParts) → IsMinimal name.Encodes name.bytes f.name → IsMinimal target_feature.Encodes target_feature.bytes f
 feature_written f h = written feature_is_lawful.minimal f (feature_there f (in_name f.name h))
-
-pub feature_appended : (f : FeatureParts) (old one new : List ℕ) (byte : ℕ) → feature_prefix.bytes f.prefix ≡ byte ∷ [] → one ≡ old ++ byte ∷ [] → new ≡ one ++ name.bytes f.name → new ≡ old ++ target_feature.bytes f
-unfolding target_feature
-feature_appended f old one new byte is p q = rw is (two old (byte ∷ []) (name.bytes f.name) one new p q)
 
 pub adds_feature : (was old new : EncodedItems) (prefix : FeaturePrefix) (text : List ℕ) (r : Result (Unit {0}) EncodeError) → was ≡ old → OnOk r (new.count ≡ was.count + 1) → OnOk r (new.bytes ≡ was.bytes ++ target_feature.bytes (feature_of (prefix, text)))
     → OnOk r (IsMinimal target_feature.Encodes target_feature.bytes (feature_of (prefix, text))) → OnErr r (new ≡ was) → IfErr r (IsRefused (IsCount (length text)) was) → AddsNamed target_feature (length text) old (feature_of (prefix, text)) new r

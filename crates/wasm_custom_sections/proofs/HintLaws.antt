@@ -5,7 +5,6 @@ use Rattle.wasm_codec.specs.declared.encode.EncodeError.{EncodeError}
 use Rattle.wasm_codec.specs.Encoding.{IsCount, IsMinimal}
 use Rattle.wasm_codec.specs.Lawful.{IsLawful, IsLawfulBody}
 use Rattle.wasm_codec.specs.Leb128.{unsigned_leb128}
-use Rattle.wasm_codec.specs.Lists.{items_bytes}
 use Rattle.wasm_codec.specs.formats.Bodies.{sized}
 use Rattle.wasm_codec.specs.formats.Combinators.{u32}
 use Rattle.wasm_codec.specs.formats.Grammar.{TakesBytes}
@@ -13,7 +12,7 @@ use Rattle.wasm_codec.specs.formats.Numbers.{EncodesU32}
 use Rattle.wasm_codec.proofs.BodyLaws.{Lawful-body, Lawful-sized}
 use Rattle.wasm_codec.proofs.FormatLaws.{IsFound, Lawful-both, Lawful-items, Lawful-made, Lawful-one-byte, Lawful-u32, takes_bytes}
 use Rattle.wasm_codec.proofs.NumberLaws.{written}
-use Rattle.wasm_externals.proofs.ExternalLaws.{three, two}
+use Rattle.wasm_externals.proofs.ExternalLaws.{three}
 use Rattle.wasm_lists.specs.EncodedLists.{EncodedItems}
 use Rattle.wasm_lists.proofs.EncodedListLaws.{all_in_range, counted_or, which}
 use Rattle.wasm_lists.proofs.WrittenLists.{in_range_of}
@@ -74,10 +73,6 @@ hints_there f small few fit = ((small, (few, fit)), refl)
 
 pub hints_written : (index : ℕ) (hints : List BranchHint) → IsMinimal EncodesU32 unsigned_leb128 index → IsCount (length hints) → All (IsMinimal branch_hint.Encodes branch_hint.bytes) hints → IsMinimal function_hints.Encodes function_hints.bytes (hints_of (index, hints))
 hints_written index hints i few all = written hints_are_lawful.minimal (hints_of (index, hints)) (hints_there (hints_of (index, hints)) (in_range_of u32 Lawful-u32 index i) few (by_recursion branch_hint.InRange hints (all_in_range branch_hint hint_is_lawful hints all)))
-
-pub hints_appended : (index : ℕ) (hints : List BranchHint) (old one new : List ℕ) → one ≡ old ++ unsigned_leb128 index → new ≡ one ++ items_bytes branch_hint.bytes hints → new ≡ old ++ function_hints.bytes (hints_of (index, hints))
-unfolding function_hints
-hints_appended index hints old one new p q = two old (unsigned_leb128 index) (items_bytes branch_hint.bytes hints) one new p q
 
 pub adds_hints : (was old new : EncodedItems) (index : ℕ) (hints : List BranchHint) (r : Result (Unit {0}) EncodeError) → was ≡ old → OnOk r (new.count ≡ was.count + 1) → OnOk r (new.bytes ≡ was.bytes ++ function_hints.bytes (hints_of (index, hints)))
     → OnOk r (IsMinimal function_hints.Encodes function_hints.bytes (hints_of (index, hints))) → OnErr r (new ≡ was) → IfErr r (IsRefused (IsCount (length hints)) was) → AddsNamed function_hints (length hints) old (hints_of (index, hints)) new r

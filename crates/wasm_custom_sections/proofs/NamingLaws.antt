@@ -1,5 +1,5 @@
 -- The laws of names for indices, and what is written of them.
-use Rattle.std.proofs.Common.{◌≡◌, ℕ, ◌<◌, ◌^◌, List, ◌++◌, Some, refl}
+use Rattle.std.proofs.Common.{◌≡◌, ◌<◌, ◌^◌, ◌++◌, Some, refl}
 use Rattle.wasm_codec.specs.Encoding.{IsMinimal}
 use Rattle.wasm_codec.specs.Lawful.{IsLawful}
 use Rattle.wasm_codec.specs.Leb128.{unsigned_leb128}
@@ -11,7 +11,6 @@ use Rattle.wasm_codec.proofs.NumberLaws.{written}
 use Rattle.wasm_lists.proofs.WrittenLists.{in_range_of}
 use Rattle.wasm_externals.specs.formats.Names.{name}
 use Rattle.wasm_externals.proofs.NameLaws.{name_is_lawful, in_name}
-use Rattle.wasm_externals.proofs.ExternalLaws.{two}
 use Rattle.wasm_custom_sections.specs.formats.NameParts.{NamingParts, IndirectParts}
 use Rattle.wasm_custom_sections.specs.formats.Names.{naming, naming_of, indirect_naming, indirect_of}
 
@@ -39,10 +38,6 @@ naming_there n small fits = ((small, fits), refl)
 
 pub naming_written : (n : NamingParts) → IsMinimal EncodesU32 unsigned_leb128 n.index → IsMinimal name.Encodes name.bytes n.name → IsMinimal naming.Encodes naming.bytes n
 naming_written n i h = written naming_is_lawful.minimal n (naming_there n (in_range_of u32 Lawful-u32 n.index i) (in_name n.name h))
-
-pub naming_appended : (n : NamingParts) (old one new : List ℕ) → one ≡ old ++ unsigned_leb128 n.index → new ≡ one ++ name.bytes n.name → new ≡ old ++ naming.bytes n
-unfolding naming
-naming_appended n old one new p q = two old (unsigned_leb128 n.index) (name.bytes n.name) one new p q
 
 pub indirect_there : (n : IndirectParts) → n.index < 2 ^ 32 → (items naming).InRange n.names → indirect_naming.InRange n
 unfolding indirect_naming

@@ -9,7 +9,6 @@ use Rattle.wasm_codec.proofs.FormatLaws.{Lawful-both, Lawful-items, Lawful-made,
 use Rattle.wasm_codec.proofs.NumberLaws.{written}
 use Rattle.wasm_externals.specs.formats.Names.{name}
 use Rattle.wasm_externals.proofs.NameLaws.{name_is_lawful, in_name}
-use Rattle.wasm_externals.proofs.ExternalLaws.{two}
 use Rattle.wasm_lists.specs.EncodedLists.{EncodedItems, IsFull, IsMemoryOrTooLong, IsUncounted, body_bytes}
 use Rattle.wasm_lists.proofs.EncodedListLaws.{both_or, counted_or, which}
 use Rattle.wasm_sections.specs.ListSections.{Adds, GainsItem}
@@ -42,10 +41,6 @@ producer_there p first second = ((first, second), refl)
 
 pub producer_written : (p : ProducerParts) → IsMinimal name.Encodes name.bytes p.name → IsMinimal name.Encodes name.bytes p.version → IsMinimal producer.Encodes producer.bytes p
 producer_written p first second = written producer_is_lawful.minimal p (producer_there p (in_name p.name first) (in_name p.version second))
-
-pub producer_appended : (p : ProducerParts) (old one new : List ℕ) → one ≡ old ++ name.bytes p.name → new ≡ one ++ name.bytes p.version → new ≡ old ++ producer.bytes p
-unfolding producer
-producer_appended p old one new first second = two old (name.bytes p.name) (name.bytes p.version) one new first second
 
 field_there : (f : FieldParts) → name.InRange f.field → (items producer).InRange f.values → producers_field.InRange f
 unfolding producers_field

@@ -1,8 +1,9 @@
 -- The laws of the symbols of object files, and what is written of them.
-use Rattle.std.proofs.Common.{◌≡◌, ℕ, ◌+◌, ◌<◌, ◌^◌, ◌⊎◌, Bool, true, false, List, [], ◌∷◌, ◌++◌, Option, Some, None, Result, Ok, Err, OnOk, OnErr, IfErr, inr, refl, lit≤, sym, subst, ◌∙◌}
+use Rattle.std.proofs.Common.{◌≡◌, ℕ, ◌+◌, ◌<◌, ◌^◌, ◌⊎◌, Bool, true, false, List, [], ◌∷◌, ◌++◌, Option, Some, None, Result, Ok, Err, OnOk, OnErr, IfErr, inr, refl, lit≤, sym, subst}
 use Rattle.std.specs.Prelude.{is_some}
 use Rattle.std.proofs.lemmas.List.{append-nil}
 use Rattle.wasm_codec.specs.declared.encode.EncodeError.{EncodeError}
+use Rattle.wasm_codec.specs.Appending.{Appends}
 use Rattle.wasm_codec.specs.Encoding.{IsCount, IsMinimal}
 use Rattle.wasm_codec.specs.Lawful.{IsLawful}
 use Rattle.wasm_codec.specs.Leb128.{unsigned_leb128}
@@ -13,7 +14,8 @@ use Rattle.wasm_codec.proofs.FormatLaws.{Every-made, Lawful-both, Lawful-made, L
 use Rattle.wasm_codec.proofs.NumberLaws.{written}
 use Rattle.wasm_externals.specs.formats.Names.{name}
 use Rattle.wasm_externals.specs.formats.PartCombinators.{part_if, some_of}
-use Rattle.wasm_externals.proofs.ExternalLaws.{four, three}
+use Rattle.wasm_externals.proofs.AppendLaws.{appends_as}
+use Rattle.wasm_externals.proofs.ExternalLaws.{three}
 use Rattle.wasm_externals.proofs.NameLaws.{name_is_lawful, in_name}
 use Rattle.wasm_externals.proofs.PartCombinatorLaws.{Lawful-part-if}
 use Rattle.wasm_lists.specs.EncodedLists.{EncodedItems, IsFull, IsMemoryOrTooLong, IsUncounted}
@@ -88,23 +90,13 @@ unfolding part_if
 definition_if_bytes true o d flag is = rw is refl
 definition_if_bytes false o d flag is = absurd cc
 
-module _ (s : ItemParts) (there : Bool) (flag : there ≡ has_name s.flags) where
-  pub item_there : IsMinimal EncodesU32 unsigned_leb128 s.flags → IsMinimal EncodesU32 unsigned_leb128 s.index → (is_some s.name ≡ there → (part_if there name).InRange s.name) → ItemAgrees s → item_symbol.InRange s
-  unfolding item_symbol
-  item_there flags index fits agrees = ((in_u32 s.flags flags, (in_u32 s.index index, subst (λ (t : Bool). (part_if t name).InRange s.name) flag (fits (agrees ∙ sym flag)))), refl)
+pub item_there : (s : ItemParts) → IsMinimal EncodesU32 unsigned_leb128 s.flags → IsMinimal EncodesU32 unsigned_leb128 s.index → (is_some s.name ≡ has_name s.flags → (part_if (has_name s.flags) name).InRange s.name) → ItemAgrees s → item_symbol.InRange s
+unfolding item_symbol
+item_there s flags index fits agrees = ((in_u32 s.flags flags, (in_u32 s.index index, fits agrees)), refl)
 
-  pub item_appended : (kind : ℕ) (old one two three new : List ℕ) → one ≡ old ++ kind ∷ [] → two ≡ one ++ unsigned_leb128 s.flags → three ≡ two ++ unsigned_leb128 s.index → new ≡ three ++ (part_if there name).bytes s.name → new ≡ old ++ kind ∷ item_symbol.bytes s
-  unfolding item_symbol
-  item_appended kind old a b c new p q r t = four old (kind ∷ []) (unsigned_leb128 s.flags) (unsigned_leb128 s.index) ((part_if (has_name s.flags) name).bytes s.name) a b c new p q r (subst (λ (u : Bool). new ≡ c ++ (part_if u name).bytes s.name) flag t)
-
-module _ (s : DataParts) (there : Bool) (flag : there ≡ is_defined s.flags) where
-  pub data_there : IsMinimal EncodesU32 unsigned_leb128 s.flags → IsMinimal name.Encodes name.bytes s.name → (is_some s.definition ≡ there → (part_if there definition).InRange s.definition) → DataAgrees s → data_symbol.InRange s
-  unfolding data_symbol
-  data_there flags text fits agrees = ((in_u32 s.flags flags, (in_name s.name text, subst (λ (t : Bool). (part_if t definition).InRange s.definition) flag (fits (agrees ∙ sym flag)))), refl)
-
-  pub data_appended : (old one two three new : List ℕ) → one ≡ old ++ 1 ∷ [] → two ≡ one ++ unsigned_leb128 s.flags → three ≡ two ++ name.bytes s.name → new ≡ three ++ (part_if there definition).bytes s.definition → new ≡ old ++ 1 ∷ data_symbol.bytes s
-  unfolding data_symbol
-  data_appended old a b c new p q r t = four old (1 ∷ []) (unsigned_leb128 s.flags) (name.bytes s.name) ((part_if (is_defined s.flags) definition).bytes s.definition) a b c new p q r (subst (λ (u : Bool). new ≡ c ++ (part_if u definition).bytes s.definition) flag t)
+pub data_there : (s : DataParts) → IsMinimal EncodesU32 unsigned_leb128 s.flags → IsMinimal name.Encodes name.bytes s.name → (is_some s.definition ≡ is_defined s.flags → (part_if (is_defined s.flags) definition).InRange s.definition) → DataAgrees s → data_symbol.InRange s
+unfolding data_symbol
+data_there s flags text fits agrees = ((in_u32 s.flags flags, (in_name s.name text, fits agrees)), refl)
 
 pub section_there : (s : SectionSymbol) → IsMinimal EncodesU32 unsigned_leb128 s.flags → IsMinimal EncodesU32 unsigned_leb128 s.section → section_symbol.InRange s
 unfolding section_symbol
@@ -132,7 +124,7 @@ symbol_there (section s) fits agrees = (fits, refl)
 symbol_there (tag s) fits agrees = (fits agrees, refl)
 symbol_there (table s) fits agrees = (fits agrees, refl)
 
-pub symbol_written : (s : SymbolParts) → PartsInRange s → IsWrittenSymbol s
+symbol_written : (s : SymbolParts) → PartsInRange s → IsWrittenSymbol s
 symbol_written s fits agrees = written symbol_is_lawful.minimal s (symbol_there s fits agrees)
 
 -- the bytes of each kind
@@ -152,6 +144,9 @@ bytes_are (global s) = refl
 bytes_are (section s) = refl
 bytes_are (tag s) = refl
 bytes_are (table s) = refl
+
+pub symbol_appends : {r : Result (Unit {0}) EncodeError} {old new : List ℕ} (s : SymbolParts) → Appends (kind_bytes s) (CountedSymbol s) (PartsInRange s) old new r → Appends (symbol.bytes s) (CountedSymbol s) (IsWrittenSymbol s) old new r
+symbol_appends s call = appends_as (sym (bytes_are s)) (symbol_written s) call
 
 -- ---- methods that add
 

@@ -5,7 +5,8 @@ use Rattle.std.specs.List.{All, AllByRecursion, flat_map}
 use Rattle.std.proofs.lemmas.List.{length-map}
 use Rattle.wasm_codec.specs.declared.encode.EncodeError.{EncodeError}
 use Rattle.wasm_codec.specs.declared.encode.EncodeError.TheVariants.{Memory, TooLong}
-use Rattle.wasm_codec.specs.Encoding.{byte_list_bytes, CanEncodeList, IsCount, IsCountRefusal, IsListRefusal, IsRefusal, IsMinimal, IsTooLong, OnlyTooLong}
+use Rattle.wasm_codec.specs.Appending.{Appends}
+use Rattle.wasm_codec.specs.Encoding.{byte_list_bytes, CanEncodeList, IsCount, IsListRefusal, IsRefusal, IsMinimal, IsTooLong, OnlyTooLong}
 use Rattle.wasm_codec.specs.Lawful.{IsLawful}
 use Rattle.wasm_codec.specs.Leb128.{unsigned_leb128}
 use Rattle.wasm_codec.specs.Lists.{items_bytes}
@@ -17,7 +18,7 @@ use Rattle.wasm_codec.proofs.NumberLaws.{written}
 use Rattle.wasm_lists.proofs.WrittenLists.{in_range_of}
 use Rattle.wasm_sections.specs.WrittenSections.{CountedList}
 use Rattle.wasm_externals.specs.formats.Names.{name}
-use Rattle.wasm_externals.proofs.ExternalLaws.{two}
+use Rattle.wasm_externals.proofs.AppendLaws.{appends_more}
 use Rattle.wasm_externals.proofs.NameLaws.{in_name}
 use Rattle.wasm_custom_sections.specs.declared.name_maps.Naming.{Naming}
 use Rattle.wasm_custom_sections.specs.declared.name_maps.IndirectNaming.{IndirectNaming}
@@ -65,9 +66,9 @@ names_refused encoding Can xs (Err e) (inr (is, long)) = inr (λ can. let few : 
 
 -- ---- names inside an item
 
-pub indirect_appended : (item : IndirectNaming) (old one new : List ℕ) → one ≡ old ++ unsigned_leb128 item.index → new ≡ one ++ items_bytes naming_bytes item.names → new ≡ old ++ indirect_naming.bytes (indirect_parts item)
+pub indirect_are : (item : IndirectNaming) → unsigned_leb128 item.index ++ items_bytes naming_bytes item.names ≡ indirect_naming.bytes (indirect_parts item)
 unfolding indirect_naming
-indirect_appended item old one new p q = two old (unsigned_leb128 item.index) ((items naming).bytes (map naming_parts item.names)) one new p (q ∙ ap (λ (t : List ℕ). one ++ t) (sym (list_is naming_parts naming item.names)))
+indirect_are item = ap (λ (t : List ℕ). unsigned_leb128 item.index ++ t) (sym (list_is naming_parts naming item.names))
 
 pub indirect_written : (item : IndirectNaming) → IsMinimal EncodesU32 unsigned_leb128 item.index → AreCountedNames item.names → All (λ n. IsMinimal naming.Encodes naming.bytes (naming_parts n)) item.names → IsMinimal indirect_naming.Encodes indirect_naming.bytes (indirect_parts item)
 indirect_written item index can all = written indirect_is_lawful.minimal (indirect_parts item) (indirect_there (indirect_parts item) (in_range_of u32 Lawful-u32 item.index index) (list_in_range naming_parts naming naming_is_lawful item.names can.0 all))
@@ -99,45 +100,24 @@ module _ {T V : Type 0} {id : ℕ} {view : T → V} {make : List V → Subsectio
   list_written : (ys : List T) → CountedList (λ x. F.bytes (view x)) Can ys → All (λ x. IsMinimal F.Encodes F.bytes (view x)) ys → IsWrittenSubsection (variant ys)
   list_written ys can all = kind_written kind (variant ys) (map view ys) (parts ys) (content_of ys) (list_in_range view F law ys can.0.0 all) (subst (λ (t : List ℕ). IsCount (length t)) (sym (list_is view F ys)) can.1)
 
-  which : {X : Type 0} (ys : List T) (r : Result X EncodeError) → IfErr r (IsRefusal (CountedList (λ x. F.bytes (view x)) Can) OnlyTooLong ys) → IfErr r (IsRefusal CountedSubsection OnlyTooLong (variant ys))
-  which ys (Ok x) none = tt
-  which ys (Err e) (inl memory) = inl memory
-  which ys (Err e) (inr (cannot, is)) = inr (λ can. cannot (counts ys can), is)
-
-  can_be : {X E : Type 0} (ys : List T) (r : Result X E) → OnOk r (CountedList (λ x. F.bytes (view x)) Can ys) → OnOk r (CountedSubsection (variant ys))
-  can_be ys (Ok x) can = counted ys can
-  can_be ys (Err e) can = tt
-
-  of_variant : (ys : List T) (old new : List ℕ) (r : Result (Unit {0}) EncodeError) → OnOk r (new ≡ old ++ id ∷ byte_list_bytes (items_bytes (λ x. F.bytes (view x)) ys)) → OnOk r (CountedList (λ x. F.bytes (view x)) Can ys) → OnOk r (All (λ x. IsMinimal F.Encodes F.bytes (view x)) ys)
-      → IfErr r (IsRefusal (CountedList (λ x. F.bytes (view x)) Can) OnlyTooLong ys) → take (length old) new ≡ old → AppendsSubsection (variant ys) old new r
-  of_variant ys old new r ok can all refused kept =
-      let is : OnOk r (new ≡ old ++ id ∷ byte_list_bytes ((items F).bytes (map view ys))) = subst (λ (t : List ℕ). OnOk r (new ≡ old ++ id ∷ byte_list_bytes t)) (sym (list_is view F ys)) ok in
-      record {
-        ok = kind_appended kind (variant ys) (map view ys) (parts ys) (content_of ys) old new r is;
-        can = can_be ys r can;
-        written = where_written r (variant ys) (list_written ys) can all;
-        refused = which ys r refused;
-        kept = kept;
-      }
-
-  list_appended : (s : NameSubsection) (ys : List T) (old new : List ℕ) (r : Result (Unit {0}) EncodeError) → s ≡ variant ys → OnOk r (new ≡ old ++ id ∷ byte_list_bytes (items_bytes (λ x. F.bytes (view x)) ys)) → OnOk r (CountedList (λ x. F.bytes (view x)) Can ys) → OnOk r (All (λ x. IsMinimal F.Encodes F.bytes (view x)) ys)
-      → IfErr r (IsRefusal (CountedList (λ x. F.bytes (view x)) Can) OnlyTooLong ys) → take (length old) new ≡ old → AppendsSubsection s old new r
-  list_appended s ys old new r is ok can all refused kept = subst (λ (t : NameSubsection). AppendsSubsection t old new r) (sym is) (of_variant ys old new r ok can all refused kept)
+  list_appended : {r : Result (Unit {0}) EncodeError} {old new : List ℕ} (s : NameSubsection) (ys : List T) → s ≡ variant ys → Appends (id ∷ byte_list_bytes (items_bytes (λ x. F.bytes (view x)) ys)) (CountedList (λ x. F.bytes (view x)) Can ys) (All (λ x. IsMinimal F.Encodes F.bytes (view x)) ys) old new r
+      → AppendsSubsection s old new r
+  list_appended {r = r} {old = old} {new = new} s ys is call =
+      let same = ap (λ (t : List ℕ). id ∷ byte_list_bytes t) (sym (list_is view F ys)) ∙ sym (bytes_are kind (variant ys) (map view ys) (parts ys) (content_of ys)) in
+      subst (λ (t : NameSubsection). AppendsSubsection t old new r) (sym is) (appends_more same (counted ys) (counts ys) (list_written ys) call)
 
 -- a name map of this kind
 module _ {id : ℕ} {make : List NamingParts → SubsectionParts} (kind : IsKind id make (items naming)) (variant : List Naming → NameSubsection)
     (parts : (ys : List Naming) → subsection_parts (variant ys) ≡ make (map naming_parts ys)) (content : (ys : List Naming) → subsection_content (variant ys) ≡ items_bytes naming_bytes ys)
     (counted : (ys : List Naming) → CountedNames ys → CountedSubsection (variant ys)) (counts : (ys : List Naming) → CountedSubsection (variant ys) → CountedNames ys) where
-  pub names_appended : (s : NameSubsection) (ys : List Naming) (old new : List ℕ) (r : Result (Unit {0}) EncodeError) → s ≡ variant ys → OnOk r (new ≡ old ++ id ∷ byte_list_bytes (items_bytes naming_bytes ys)) → OnOk r (CountedNames ys) → OnOk r (All (λ n. IsMinimal naming.Encodes naming.bytes (naming_parts n)) ys)
-      → IfErr r (IsRefusal CountedNames OnlyTooLong ys) → take (length old) new ≡ old → AppendsSubsection s old new r
+  pub names_appended : {r : Result (Unit {0}) EncodeError} {old new : List ℕ} (s : NameSubsection) (ys : List Naming) → s ≡ variant ys → Appends (id ∷ byte_list_bytes (items_bytes naming_bytes ys)) (CountedNames ys) (All (λ n. IsMinimal naming.Encodes naming.bytes (naming_parts n)) ys) old new r → AppendsSubsection s old new r
   names_appended = list_appended kind naming_is_lawful (λ n. IsCount (length n.name.now)) variant parts content counted counts
 
 -- an indirect name map of this kind
 module _ {id : ℕ} {make : List IndirectParts → SubsectionParts} (kind : IsKind id make (items indirect_naming)) (variant : List IndirectNaming → NameSubsection)
     (parts : (ys : List IndirectNaming) → subsection_parts (variant ys) ≡ make (map indirect_parts ys)) (content : (ys : List IndirectNaming) → subsection_content (variant ys) ≡ items_bytes indirect_bytes ys)
     (counted : (ys : List IndirectNaming) → CountedItems ys → CountedSubsection (variant ys)) (counts : (ys : List IndirectNaming) → CountedSubsection (variant ys) → CountedItems ys) where
-  pub items_appended : (s : NameSubsection) (ys : List IndirectNaming) (old new : List ℕ) (r : Result (Unit {0}) EncodeError) → s ≡ variant ys → OnOk r (new ≡ old ++ id ∷ byte_list_bytes (items_bytes indirect_bytes ys)) → OnOk r (CountedItems ys) → OnOk r (All (λ i. IsMinimal indirect_naming.Encodes indirect_naming.bytes (indirect_parts i)) ys)
-      → IfErr r (IsRefusal CountedItems OnlyTooLong ys) → take (length old) new ≡ old → AppendsSubsection s old new r
+  pub items_appended : {r : Result (Unit {0}) EncodeError} {old new : List ℕ} (s : NameSubsection) (ys : List IndirectNaming) → s ≡ variant ys → Appends (id ∷ byte_list_bytes (items_bytes indirect_bytes ys)) (CountedItems ys) (All (λ i. IsMinimal indirect_naming.Encodes indirect_naming.bytes (indirect_parts i)) ys) old new r → AppendsSubsection s old new r
   items_appended = list_appended kind indirect_is_lawful (λ item. AreCountedNames item.names) variant parts content counted counts
 
 -- the name of the module
@@ -166,17 +146,6 @@ module_appended s text old new r is ok can few all refused kept = subst (λ (t :
 unknown_written : (id : ℕ) (bytes : Bor (List ℕ)) → id < 256 → IsBytes bytes.now → IsCount (length bytes.now) → IsWrittenSubsection (read.Unknown id bytes)
 unknown_written id bytes small are few = λ far. (sym (unknown_bytes id far bytes.now), written subsection_is_lawful.minimal (unknown id bytes.now) (unknown_in_range id far small bytes.now are few))
 
-unknown_refused : {X : Type 0} (id : ℕ) (bytes : Bor (List ℕ)) (r : Result X EncodeError) → IfErr r (IsCountRefusal (length bytes.now)) → IfErr r (IsRefusal CountedSubsection OnlyTooLong (read.Unknown id bytes))
-unknown_refused id bytes (Ok x) none = tt
-unknown_refused id bytes (Err e) (inl memory) = inl memory
-unknown_refused id bytes (Err e) (inr (is, long)) = inr (λ can. let few : length bytes.now < 2 ^ 32 = can in omega (arith, few, long), is)
-
-pub unknown_appended : (s : NameSubsection) (id : ℕ) (bytes : Bor (List ℕ)) (old new : List ℕ) (r : Result (Unit {0}) EncodeError) → s ≡ read.Unknown id bytes → id < 256 → IsBytes bytes.now → OnOk r (new ≡ old ++ id ∷ byte_list_bytes bytes.now) → OnOk r (IsCount (length bytes.now))
-    → IfErr r (IsCountRefusal (length bytes.now)) → take (length old) new ≡ old → AppendsSubsection s old new r
-unknown_appended s id bytes old new r is small are ok can refused kept = subst (λ (t : NameSubsection). AppendsSubsection t old new r) (sym is) (record {
-  ok = ok;
-  can = can;
-  written = both r (λ few more. unknown_written id bytes small are few) can can;
-  refused = unknown_refused id bytes r refused;
-  kept = kept;
-})
+pub unknown_appended : {r : Result (Unit {0}) EncodeError} {old new : List ℕ} (s : NameSubsection) (id : ℕ) (bytes : Bor (List ℕ)) → s ≡ read.Unknown id bytes → id < 256 → IsBytes bytes.now → Appends (id ∷ byte_list_bytes bytes.now) (IsCount (length bytes.now)) (Unit {0}) old new r → AppendsSubsection s old new r
+unknown_appended {r = r} {old = old} {new = new} s id bytes is small are call =
+    subst (λ (t : NameSubsection). AppendsSubsection t old new r) (sym is) (appends_more refl (λ few. few) (λ few. few) (λ few done. unknown_written id bytes small are few) call)

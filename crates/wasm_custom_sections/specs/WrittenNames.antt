@@ -1,7 +1,8 @@
 -- Decoded subsections of a name section that are written (WebAssembly Core 3.0, Name Section).
-use Rattle.std.specs.Prelude.{ℕ, ◌≡◌, ◌<◌, ◌++◌, ◌∷◌, List, length, take, Result, OnOk, IfErr}
+use Rattle.std.specs.Prelude.{ℕ, ◌≡◌, ◌<◌, ◌∷◌, List, length, Result}
 use Rattle.wasm_codec.specs.declared.encode.EncodeError.{EncodeError}
-use Rattle.wasm_codec.specs.Encoding.{byte_list_bytes, CanEncodeList, IsCount, IsRefusal, IsMinimal, OnlyTooLong}
+use Rattle.wasm_codec.specs.Appending.{Appends}
+use Rattle.wasm_codec.specs.Encoding.{byte_list_bytes, CanEncodeList, IsCount, IsMinimal}
 use Rattle.wasm_codec.specs.Lists.{items_bytes}
 use Rattle.wasm_sections.specs.WrittenSections.{CountedList}
 use Rattle.wasm_externals.specs.formats.Names.{name}
@@ -81,15 +82,6 @@ HasUnknownId s = Unit {0}
 abbrev pub IsWrittenSubsection : NameSubsection → Type 0
 IsWrittenSubsection s = HasUnknownId s → (subsection_bytes s ≡ name_subsection.bytes (subsection_parts s)) × IsMinimal name_subsection.Encodes name_subsection.bytes (subsection_parts s)
 
--- A function that appends the subsection.
-pub record AppendsSubsection (s : NameSubsection) (old new : List ℕ) (result : Result (Unit {0}) EncodeError) : Type 0 where
-  -- It appends the id, the size of the contents, and the contents.
-  pub ok : OnOk result (new ≡ old ++ subsection_bytes s)
-  -- U32s count the subsection's lists, names and bytes.
-  pub can : OnOk result (CountedSubsection s)
-  -- What it appends is the minimal encoding of the subsection.
-  pub written : OnOk result (IsWrittenSubsection s)
-  -- It fails with `Memory`, or with `TooLong` if a u32 doesn't count a list, a name or the bytes.
-  pub refused : IfErr result (IsRefusal CountedSubsection OnlyTooLong s)
-  -- On error the bytes before are unchanged.
-  pub kept : take (length old) new ≡ old
+-- A call that appends the subsection.
+abbrev pub AppendsSubsection : NameSubsection → List ℕ → List ℕ → Result (Unit {0}) EncodeError → Type 0
+AppendsSubsection s = Appends (subsection_bytes s) (CountedSubsection s) (IsWrittenSubsection s)

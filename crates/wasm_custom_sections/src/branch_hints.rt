@@ -1,6 +1,7 @@
 //! The section `metadata.code.branch_hint`: which branches are likely taken (WebAssembly proposal, Branch Hinting).
-ghost use Rattle.std.specs.Prelude.{◌≡◌, ◌∷◌, ◌++◌, Bool, [], refl, codes, OnOk, IfErr, length, take};
-ghost use Rattle.wasm_codec.specs.Encoding.{IsCount, IsCountRefusal, IsMinimal, OnlyTooLong};
+ghost use Rattle.std.specs.Prelude.{◌≡◌, ◌∷◌, Bool, [], refl, codes, IfErr, length};
+ghost use Rattle.wasm_codec.specs.Appending.{AppendsMinimal};
+ghost use Rattle.wasm_codec.specs.Encoding.{IsCount, IsMinimal, OnlyTooLong};
 ghost use Rattle.wasm_codec.specs.Lawful.{IsLawful};
 ghost use Rattle.wasm_codec.specs.Places.{Reads};
 ghost use Rattle.wasm_codec.specs.Outcomes.{IsMalformed};
@@ -205,11 +206,7 @@ struct HintsOf<'a> {
 
 /// Appends an index and hints. On error a part of them may remain.
 fn append_hints<A: Allocator>(item: &HintsOf<'_>, sink: &mut Vec<u8, A>) -> Result<(), EncodeError>
-    ensures ok { OnOk result (sink.new.items ≡ sink.old.items ++ function_hints.bytes (hints_of (item.now.function_index, item.now.hints.now))) }
-    ensures can { OnOk result (IsCount (length item.now.hints.now)) }
-    ensures written { OnOk result (IsMinimal function_hints.Encodes function_hints.bytes (hints_of (item.now.function_index, item.now.hints.now))) }
-    ensures refused { IfErr result (IsCountRefusal (length item.now.hints.now)) }
-    ensures kept { take (length sink.old.items) sink.new.items ≡ sink.old.items }
+    ensures { AppendsMinimal function_hints (hints_of (item.now.function_index, item.now.hints.now)) (IsCount (length item.now.hints.now)) sink.old.items sink.new.items result }
 {
     sink.reserve(5)?;
     put_u32(sink, item.function_index);

@@ -1,8 +1,9 @@
 //! Core dumps: the process, its modules and their instances (tool conventions, Core Dumps).
-ghost use Rattle.std.specs.Prelude.{◌≡◌, ◌++◌, ◌⊎◌, ℕ, List, refl, codes, ⊤, IfOk, OnOk, IfErr, length, take, ◌≤◌};
+ghost use Rattle.std.specs.Prelude.{◌≡◌, ◌⊎◌, ℕ, List, refl, codes, ⊤, IfOk, IfErr, length, ◌≤◌};
 ghost use Rattle.std.proofs.lemmas.List.{map_push};
 ghost use Rattle.wasm_codec.specs.Decoding.{ChecksAll, TakesMinimal, RewritesInPlace};
-ghost use Rattle.wasm_codec.specs.Encoding.{IsCount, IsCountRefusal, IsRefusal, IsMinimal, OnlyTooLong};
+ghost use Rattle.wasm_codec.specs.Appending.{AppendsMinimal};
+ghost use Rattle.wasm_codec.specs.Encoding.{IsCount, IsCountRefusal, IsMinimal, OnlyTooLong};
 ghost use Rattle.wasm_codec.specs.Inputs.{Passes};
 ghost use Rattle.wasm_codec.specs.Lawful.{IsLawful, IsLawfulBody};
 ghost use Rattle.wasm_codec.specs.Outcomes.{IfMalformed, IsMalformed, LiesIn, NeedsNoMemory, as_read};
@@ -243,11 +244,7 @@ fn append_module<A: Allocator>(
     item: &CoreDumpModule<'_>,
     sink: &mut Vec<u8, A>,
 ) -> Result<(), EncodeError>
-    ensures ok { OnOk result (sink.new.items ≡ sink.old.items ++ core_name.bytes item.now.name.now) }
-    ensures can { OnOk result (IsCount (length item.now.name.now)) }
-    ensures written { OnOk result (IsMinimal core_name.Encodes core_name.bytes item.now.name.now) }
-    ensures refused { IfErr result (IsCountRefusal (length item.now.name.now)) }
-    ensures kept { take (length sink.old.items) sink.new.items ≡ sink.old.items }
+    ensures { AppendsMinimal core_name item.now.name.now (IsCount (length item.now.name.now)) sink.old.items sink.new.items result }
 {
     sink.reserve(1)?;
     sink.push_reserved(0x00);
@@ -286,11 +283,8 @@ fn append_instance<A: Allocator>(
     item: &InstanceOf<'_>,
     sink: &mut Vec<u8, A>,
 ) -> Result<(), EncodeError>
-    ensures ok { OnOk result (sink.new.items ≡ sink.old.items ++ core_instance.bytes (instance_of (item.now.module_index, (item.now.memories.now, item.now.globals.now)))) }
-    ensures can { OnOk result (IsCount (length item.now.memories.now) × IsCount (length item.now.globals.now)) }
-    ensures written { OnOk result (IsMinimal core_instance.Encodes core_instance.bytes (instance_of (item.now.module_index, (item.now.memories.now, item.now.globals.now)))) }
-    ensures refused { IfErr result (IsRefusal (λ x. IsCount (length x.memories.now) × IsCount (length x.globals.now)) OnlyTooLong item.now) }
-    ensures kept { take (length sink.old.items) sink.new.items ≡ sink.old.items }
+    ensures { AppendsMinimal core_instance (instance_of (item.now.module_index, (item.now.memories.now, item.now.globals.now)))
+        (IsCount (length item.now.memories.now) × IsCount (length item.now.globals.now)) sink.old.items sink.new.items result }
 {
     sink.reserve(6)?;
     sink.push_reserved(0x00);

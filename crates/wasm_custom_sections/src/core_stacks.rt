@@ -1,8 +1,9 @@
 //! Core dumps: the stack of a thread (tool conventions, Core Dumps).
-ghost use Rattle.std.specs.Prelude.{◌≡◌, ◌↔◌, ◌++◌, ◌⊎◌, [], refl, codes, ⊤, IsTrue, IfOk, OnOk, IfErr, length, take, ◌≤◌};
+ghost use Rattle.std.specs.Prelude.{◌≡◌, ◌↔◌, ◌⊎◌, [], refl, codes, ⊤, IsTrue, IfOk, IfErr, length, ◌≤◌};
 ghost use Rattle.std.proofs.lemmas.List.{map_push};
 ghost use Rattle.wasm_codec.specs.Decoding.{ChecksAll, TakesMinimal, RewritesInPlace};
-ghost use Rattle.wasm_codec.specs.Encoding.{IsCount, IsCountRefusal, IsRefusal, IsMinimal, OnlyTooLong};
+ghost use Rattle.wasm_codec.specs.Appending.{Appends, AppendsMinimal};
+ghost use Rattle.wasm_codec.specs.Encoding.{IsCount, IsCountRefusal, IsMinimal, OnlyTooLong};
 ghost use Rattle.wasm_codec.specs.Lawful.{IsLawful, IsLawfulBody};
 ghost use Rattle.wasm_codec.specs.Outcomes.{IfMalformed, LiesIn, NeedsNoMemory, as_read};
 ghost use Rattle.wasm_codec.specs.Rewriter.{Rewrites};
@@ -166,11 +167,8 @@ struct FrameOf<'a> {
 
 /// Appends a frame. On error a part of it may remain.
 fn append_frame<A: Allocator>(item: &FrameOf<'_>, sink: &mut Vec<u8, A>) -> Result<(), EncodeError>
-    ensures ok { OnOk result (sink.new.items ≡ sink.old.items ++ core_frame.bytes (frame_of (item.now.instance_index, (item.now.function_index, (item.now.code_offset, (item.now.locals.now, item.now.stack.now)))))) }
-    ensures can { OnOk result (IsCount (length item.now.locals.now) × IsCount (length item.now.stack.now)) }
-    ensures written { OnOk result (IsMinimal core_frame.Encodes core_frame.bytes (frame_of (item.now.instance_index, (item.now.function_index, (item.now.code_offset, (item.now.locals.now, item.now.stack.now)))))) }
-    ensures refused { IfErr result (IsRefusal (λ x. IsCount (length x.locals.now) × IsCount (length x.stack.now)) OnlyTooLong item.now) }
-    ensures kept { take (length sink.old.items) sink.new.items ≡ sink.old.items }
+    ensures { AppendsMinimal core_frame (frame_of (item.now.instance_index, (item.now.function_index, (item.now.code_offset, (item.now.locals.now, item.now.stack.now)))))
+        (IsCount (length item.now.locals.now) × IsCount (length item.now.stack.now)) sink.old.items sink.new.items result }
 {
     sink.reserve(16)?;
     sink.push_reserved(0x00);
@@ -343,11 +341,8 @@ fn append_contents<A: Allocator>(
     item: &StackContents<'_>,
     sink: &mut Vec<u8, A>,
 ) -> Result<(), EncodeError>
-    ensures ok { OnOk result (sink.new.items ≡ sink.old.items ++ stack_bytes (record { name = item.now.name.now; frames = item.now.frames.now })) }
-    ensures can { OnOk result (IsCount (length item.now.name.now)) }
-    ensures written { OnOk result (HoldsStack (record { name = item.now.name.now; frames = item.now.frames.now })) }
-    ensures refused { IfErr result (IsCountRefusal (length item.now.name.now)) }
-    ensures kept { take (length sink.old.items) sink.new.items ≡ sink.old.items }
+    ensures { Appends (stack_bytes (record { name = item.now.name.now; frames = item.now.frames.now })) (IsCount (length item.now.name.now))
+        (HoldsStack (record { name = item.now.name.now; frames = item.now.frames.now })) sink.old.items sink.new.items result }
 {
     sink.reserve(1)?;
     sink.push_reserved(0x00);

@@ -1,7 +1,8 @@
 //! Names for indices, and lists of them (Core 3.0, Name Section).
 ghost use Rattle.std.specs.Prelude.{◌≡◌, ◌↔◌, ◌++◌, [], refl, IsTrue, OnOk, OnErr, IfErr, length, take};
 ghost use Rattle.std.proofs.lemmas.List.{map_push};
-ghost use Rattle.wasm_codec.specs.Encoding.{IsCount, IsCountRefusal, IsRefusal, IsMinimal, OnlyTooLong};
+ghost use Rattle.wasm_codec.specs.Appending.{AppendsMinimal};
+ghost use Rattle.wasm_codec.specs.Encoding.{IsCount, IsMinimal, OnlyTooLong};
 ghost use Rattle.wasm_codec.specs.Lawful.{IsLawful};
 ghost use Rattle.wasm_codec.specs.Leb128.{unsigned_leb128};
 ghost use Rattle.wasm_codec.specs.Inputs.{Passes};
@@ -10,8 +11,8 @@ ghost use Rattle.wasm_codec.specs.declared.encode.EncodeError.TheVariants.{Memor
 ghost use Rattle.wasm_codec.specs.Outcomes.{IsMalformed};
 ghost use Rattle.wasm_codec.specs.formats.Grammar.{TakesBytes};
 ghost use Rattle.wasm_externals.specs.Making.{Makes};
-ghost use Rattle.wasm_lists.specs.EncodedLists.{IsFull, IsMemoryOrTooLong, IsUncounted, body_bytes};
-ghost use Rattle.wasm_sections.specs.ListSections.{Adds, GainsItem, StandsForItems};
+ghost use Rattle.wasm_lists.specs.EncodedLists.{IsFull, IsMemoryOrTooLong, body_bytes};
+ghost use Rattle.wasm_sections.specs.ListSections.{Adds, StandsForItems};
 ghost use Rattle.wasm_custom_sections.specs.Gaining.{AddsNamed, GainsWith};
 ghost use Rattle.wasm_custom_sections.specs.WrittenNames.{AreCountedNames};
 ghost use Rattle.wasm_custom_sections.specs.formats.NameParts.{NamingParts, naming_parts, all_naming_parts, IndirectParts, indirect_parts, all_indirect_parts};
@@ -150,11 +151,7 @@ impl Rewritable for AnyIndirectNaming {
 
 /// Appends a name for an index. On error a part of it may remain.
 fn append_naming<A: Allocator>(item: &Naming<'_>, sink: &mut Vec<u8, A>) -> Result<(), EncodeError>
-    ensures ok { OnOk result (sink.new.items ≡ sink.old.items ++ naming.bytes (naming_parts item.now)) }
-    ensures can { OnOk result (IsCount (length item.now.name.now)) }
-    ensures written { OnOk result (IsMinimal naming.Encodes naming.bytes (naming_parts item.now)) }
-    ensures refused { IfErr result (IsCountRefusal (length item.now.name.now)) }
-    ensures kept { take (length sink.old.items) sink.new.items ≡ sink.old.items }
+    ensures { AppendsMinimal naming (naming_parts item.now) (IsCount (length item.now.name.now)) sink.old.items sink.new.items result }
 {
     sink.reserve(5)?;
     put_u32(sink, item.index);
@@ -185,11 +182,7 @@ fn append_indirect_naming<A: Allocator>(
     item: &IndirectNaming<'_>,
     sink: &mut Vec<u8, A>,
 ) -> Result<(), EncodeError>
-    ensures ok { OnOk result (sink.new.items ≡ sink.old.items ++ indirect_naming.bytes (indirect_parts item.now)) }
-    ensures can { OnOk result (AreCountedNames item.now.names) }
-    ensures written { OnOk result (IsMinimal indirect_naming.Encodes indirect_naming.bytes (indirect_parts item.now)) }
-    ensures refused { IfErr result (IsRefusal (λ i. AreCountedNames i.names) OnlyTooLong item.now) }
-    ensures kept { take (length sink.old.items) sink.new.items ≡ sink.old.items }
+    ensures { AppendsMinimal indirect_naming (indirect_parts item.now) (AreCountedNames item.now.names) sink.old.items sink.new.items result }
 {
     sink.reserve(5)?;
     put_u32(sink, item.index);

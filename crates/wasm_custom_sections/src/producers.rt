@@ -1,7 +1,8 @@
 //! The section `producers`: the languages and tools that a module was made with (tool conventions, Producers Section).
-ghost use Rattle.std.specs.Prelude.{◌≡◌, ◌↔◌, ◌++◌, ◌⊎◌, [], refl, codes, IsTrue, OnOk, IfErr, length, take};
+ghost use Rattle.std.specs.Prelude.{◌≡◌, ◌↔◌, ◌++◌, ◌⊎◌, [], refl, codes, IsTrue, IfErr, length};
 ghost use Rattle.std.proofs.lemmas.List.{map_push};
-ghost use Rattle.wasm_codec.specs.Encoding.{IsCount, IsRefusal, IsCountRefusal, IsMinimal, OnlyTooLong};
+ghost use Rattle.wasm_codec.specs.Appending.{Appends, AppendsMinimal};
+ghost use Rattle.wasm_codec.specs.Encoding.{IsCount, IsMinimal, OnlyTooLong};
 ghost use Rattle.wasm_codec.specs.Lawful.{IsLawful};
 ghost use Rattle.wasm_codec.specs.Inputs.{Passes};
 ghost use Rattle.wasm_codec.specs.Rewriter.{Rewrites};
@@ -147,11 +148,7 @@ fn append_producer<A: Allocator>(
     item: &Producer<'_>,
     sink: &mut Vec<u8, A>,
 ) -> Result<(), EncodeError>
-    ensures ok { OnOk result (sink.new.items ≡ sink.old.items ++ producer.bytes (producer_parts item.now)) }
-    ensures can { OnOk result (IsCount (length item.now.name.now) × IsCount (length item.now.version.now)) }
-    ensures written { OnOk result (IsMinimal producer.Encodes producer.bytes (producer_parts item.now)) }
-    ensures refused { IfErr result (IsRefusal (λ x. IsCount (length x.name.now) × IsCount (length x.version.now)) OnlyTooLong item.now) }
-    ensures kept { take (length sink.old.items) sink.new.items ≡ sink.old.items }
+    ensures { AppendsMinimal producer (producer_parts item.now) (IsCount (length item.now.name.now) × IsCount (length item.now.version.now)) sink.old.items sink.new.items result }
 {
     append_name(item.name, sink)?;
     append_name(item.version, sink)
@@ -269,11 +266,8 @@ fn append_field<A: Allocator>(
     item: &NamedField<'_>,
     sink: &mut Vec<u8, A>,
 ) -> Result<(), EncodeError>
-    ensures ok { OnOk result (sink.new.items ≡ sink.old.items ++ (name_format.bytes item.now.name.now ++ body_bytes item.now.values.now)) }
-    ensures can { OnOk result (IsCount (length item.now.name.now)) }
-    ensures written { OnOk result (IsMinimal name_format.Encodes name_format.bytes item.now.name.now × IsCount item.now.values.now.count) }
-    ensures refused { IfErr result (IsCountRefusal (length item.now.name.now)) }
-    ensures kept { take (length sink.old.items) sink.new.items ≡ sink.old.items }
+    ensures { Appends (name_format.bytes item.now.name.now ++ body_bytes item.now.values.now) (IsCount (length item.now.name.now))
+        (IsMinimal name_format.Encodes name_format.bytes item.now.name.now × IsCount item.now.values.now.count) sink.old.items sink.new.items result }
 {
     append_name(item.name, sink)?;
     item.values.encode(sink)

@@ -1,16 +1,16 @@
 //! Symbol tables that are built symbol by symbol (tool conventions, WebAssembly Object File Linking).
-ghost use Rattle.std.specs.Prelude.{◌≡◌, ◌↔◌, ◌∷◌, ◌++◌, ◌⊎◌, [], IsTrue, is_some, OnOk, OnErr, IfErr, length, take, Option, option_map};
-ghost use Rattle.wasm_codec.specs.Encoding.{byte_list_bytes, IsCount, IsCountRefusal, IsRefusal, IsMinimal, OnlyTooLong};
-ghost use Rattle.wasm_codec.specs.declared.encode.EncodeError.TheVariants.{Memory, TooLong};
-ghost use Rattle.wasm_codec.specs.formats.Combinators.{items};
+ghost use Rattle.std.specs.Prelude.{⊤, ◌≡◌, ◌↔◌, ◌∷◌, ◌++◌, [], IsTrue, is_some, OnOk, OnErr, IfErr, length, Option, option_map};
+ghost use Rattle.wasm_codec.specs.Appending.{Appends};
+ghost use Rattle.wasm_codec.specs.Encoding.{byte_list_bytes, IsCount, OnlyTooLong};
+ghost use Rattle.wasm_codec.specs.declared.encode.EncodeError.TheVariants.{Memory};
 ghost use Rattle.wasm_externals.specs.Making.{Makes};
 ghost use Rattle.wasm_externals.specs.formats.Names.{name as name_format};
 ghost use Rattle.wasm_externals.specs.formats.PartCombinators.{part_if};
-ghost use Rattle.wasm_lists.specs.EncodedLists.{IsFull, IsMemoryOrTooLong, body_bytes};
+ghost use Rattle.wasm_lists.specs.EncodedLists.{body_bytes};
 ghost use Rattle.wasm_sections.specs.ListSections.{StandsForItems};
 ghost use Rattle.wasm_custom_sections.specs.LinkingSections.{AddsSymbol, CanName, CountedSymbol, IsWrittenSymbol};
 ghost use Rattle.wasm_custom_sections.specs.formats.SymbolParts.{data_object, data_parts, function, global, item_parts, section as section_entry, symbol_parts, table, tag};
-ghost use Rattle.wasm_custom_sections.specs.formats.Symbols.{data_of, data_symbol, definition as definition_format, Agrees, ItemAgrees, DataAgrees, has_name as names_item, is_defined as defines, item_of, item_symbol, section_of, section_symbol, symbol};
+ghost use Rattle.wasm_custom_sections.specs.formats.Symbols.{data_of, data_symbol, definition as definition_format, Agrees, ItemAgrees, DataAgrees, has_name as names_item, item_of, item_symbol, section_of, section_symbol, symbol};
 
 use crate::sized::append_subsection;
 use crate::symbols::{
@@ -31,11 +31,9 @@ fn append_name_if<A: Allocator>(
     there: bool,
     sink: &mut Vec<u8, A>,
 ) -> Result<(), EncodeError>
-    ensures ok { OnOk result (sink.new.items ≡ sink.old.items ++ (part_if there name_format).bytes (option_map (λ text. text.now) name.entry)) }
-    ensures can { OnOk result (CanName there (option_map (λ text. text.now) name.entry)) }
-    ensures written { OnOk result (is_some (option_map (λ text. text.now) name.entry) ≡ there → (part_if there name_format).InRange (option_map (λ text. text.now) name.entry)) }
-    ensures refused { IfErr result (λ e. (e ≡ Memory) ⊎ ((CanName there (option_map (λ text. text.now) name.entry) → ⊥) × (e ≡ TooLong))) }
-    ensures kept { take (length sink.old.items) sink.new.items ≡ sink.old.items }
+    ensures { let text = option_map (λ text. text.now) name.entry in
+        Appends ((part_if there name_format).bytes text) (CanName there text) (is_some text ≡ there → (part_if there name_format).InRange text)
+        sink.old.items sink.new.items result }
 {
     if !there {
         return Ok(());
@@ -52,11 +50,8 @@ fn append_item<A: Allocator>(
     item: &ItemSymbol<'_>,
     sink: &mut Vec<u8, A>,
 ) -> Result<(), EncodeError>
-    ensures ok { OnOk result (sink.new.items ≡ sink.old.items ++ kind ∷ item_symbol.bytes (item_parts item.now)) }
-    ensures can { OnOk result (CanName (names_item item.now.flags) (item_parts item.now).name) }
-    ensures written { OnOk result (ItemAgrees (item_parts item.now) → item_symbol.InRange (item_parts item.now)) }
-    ensures refused { IfErr result (λ e. (e ≡ Memory) ⊎ ((CanName (names_item item.now.flags) (item_parts item.now).name → ⊥) × (e ≡ TooLong))) }
-    ensures kept { take (length sink.old.items) sink.new.items ≡ sink.old.items }
+    ensures { Appends (kind ∷ item_symbol.bytes (item_parts item.now)) (CanName (names_item item.now.flags) (item_parts item.now).name)
+        (ItemAgrees (item_parts item.now) → item_symbol.InRange (item_parts item.now)) sink.old.items sink.new.items result }
 {
     sink.reserve(11)?;
     sink.push_reserved(kind);
@@ -95,11 +90,8 @@ fn append_data<A: Allocator>(
     item: &DataSymbol<'_>,
     sink: &mut Vec<u8, A>,
 ) -> Result<(), EncodeError>
-    ensures ok { OnOk result (sink.new.items ≡ sink.old.items ++ 1 ∷ data_symbol.bytes (data_parts item.now)) }
-    ensures can { OnOk result (IsCount (length item.now.name.now)) }
-    ensures written { OnOk result (DataAgrees (data_parts item.now) → data_symbol.InRange (data_parts item.now)) }
-    ensures refused { IfErr result (IsCountRefusal (length item.now.name.now)) }
-    ensures kept { take (length sink.old.items) sink.new.items ≡ sink.old.items }
+    ensures { Appends (1 ∷ data_symbol.bytes (data_parts item.now)) (IsCount (length item.now.name.now))
+        (DataAgrees (data_parts item.now) → data_symbol.InRange (data_parts item.now)) sink.old.items sink.new.items result }
 {
     sink.reserve(6)?;
     sink.push_reserved(1);
@@ -113,10 +105,7 @@ fn append_section<A: Allocator>(
     item: SectionSymbol,
     sink: &mut Vec<u8, A>,
 ) -> Result<(), EncodeError>
-    ensures ok { OnOk result (sink.new.items ≡ sink.old.items ++ 3 ∷ section_symbol.bytes item) }
-    ensures written { OnOk result (section_symbol.InRange item) }
-    ensures refused { IfErr result (λ e. e ≡ Memory) }
-    ensures kept { take (length sink.old.items) sink.new.items ≡ sink.old.items }
+    ensures { Appends (3 ∷ section_symbol.bytes item) ⊤ (section_symbol.InRange item) sink.old.items sink.new.items result }
 {
     sink.reserve(11)?;
     sink.push_reserved(3);
@@ -128,11 +117,7 @@ fn append_section<A: Allocator>(
 /// Appends a symbol. On error a part of it may remain.
 #[tactic(auto, unfolding(crate::specs::formats::Symbols::symbol))]
 fn append_symbol<A: Allocator>(item: &Symbol<'_>, sink: &mut Vec<u8, A>) -> Result<(), EncodeError>
-    ensures ok { OnOk result (sink.new.items ≡ sink.old.items ++ symbol.bytes (symbol_parts item.now)) }
-    ensures can { OnOk result (CountedSymbol (symbol_parts item.now)) }
-    ensures written { OnOk result (IsWrittenSymbol (symbol_parts item.now)) }
-    ensures refused { IfErr result (IsRefusal (λ s. CountedSymbol (symbol_parts s)) OnlyTooLong item.now) }
-    ensures kept { take (length sink.old.items) sink.new.items ≡ sink.old.items }
+    ensures { Appends (symbol.bytes (symbol_parts item.now)) (CountedSymbol (symbol_parts item.now)) (IsWrittenSymbol (symbol_parts item.now)) sink.old.items sink.new.items result }
 {
     match item {
         Symbol::Function(function) => append_item(0, function, sink),

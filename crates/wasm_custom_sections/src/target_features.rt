@@ -1,8 +1,9 @@
 //! The section `target_features`: which features of WebAssembly an object file uses (tool conventions, Target Features
 //! Section).
-ghost use Rattle.std.specs.Prelude.{◌≡◌, ◌∷◌, ◌++◌, [], refl, codes, OnOk, IfErr, length, take};
+ghost use Rattle.std.specs.Prelude.{◌≡◌, ◌∷◌, [], refl, codes, IfErr, length};
 ghost use Rattle.std.proofs.lemmas.List.{map_push};
-ghost use Rattle.wasm_codec.specs.Encoding.{IsCount, IsCountRefusal, IsMinimal, OnlyTooLong};
+ghost use Rattle.wasm_codec.specs.Appending.{AppendsMinimal};
+ghost use Rattle.wasm_codec.specs.Encoding.{IsCount, IsMinimal, OnlyTooLong};
 ghost use Rattle.wasm_codec.specs.Lawful.{IsLawful};
 ghost use Rattle.wasm_codec.specs.Inputs.{Passes, Takes};
 ghost use Rattle.wasm_codec.specs.Rewriter.{Rewrites};
@@ -129,11 +130,7 @@ fn append_feature<A: Allocator>(
     item: &TargetFeature<'_>,
     sink: &mut Vec<u8, A>,
 ) -> Result<(), EncodeError>
-    ensures ok { OnOk result (sink.new.items ≡ sink.old.items ++ target_feature.bytes (feature_parts item.now)) }
-    ensures can { OnOk result (IsCount (length item.now.name.now)) }
-    ensures written { OnOk result (IsMinimal target_feature.Encodes target_feature.bytes (feature_parts item.now)) }
-    ensures refused { IfErr result (IsCountRefusal (length item.now.name.now)) }
-    ensures kept { take (length sink.old.items) sink.new.items ≡ sink.old.items }
+    ensures { AppendsMinimal target_feature (feature_parts item.now) (IsCount (length item.now.name.now)) sink.old.items sink.new.items result }
 {
     sink.reserve(1)?;
     sink.push_reserved(prefix_byte(item.prefix));

@@ -1,7 +1,8 @@
 //! Writers of decoded subsections of a name section (Core 3.0, Name Section).
-ghost use Rattle.std.specs.Prelude.{◌≡◌, ◌++◌, ◌∷◌, ◌<◌, OnOk, IfErr, length, take};
+ghost use Rattle.std.specs.Prelude.{◌∷◌, ◌<◌, ⊤, length};
 ghost use Rattle.std.specs.List.{All};
-ghost use Rattle.wasm_codec.specs.Encoding.{byte_list_bytes, IsCountRefusal, IsCount, IsRefusal, IsMinimal, OnlyTooLong};
+ghost use Rattle.wasm_codec.specs.Appending.{Appends};
+ghost use Rattle.wasm_codec.specs.Encoding.{byte_list_bytes, IsCount, IsMinimal, OnlyTooLong};
 ghost use Rattle.wasm_codec.specs.Lists.{items_bytes};
 ghost use Rattle.wasm_codec.specs.formats.Grammar.{IsBytes};
 ghost use Rattle.wasm_custom_sections.specs.WrittenNames.{AppendsSubsection, CountedItems, CountedNames, CountedSubsection, indirect_bytes, IsWrittenSubsection, naming_bytes, subsection_bytes};
@@ -42,7 +43,7 @@ fn append<A: Allocator>(
     subsection: &NameSubsection<'_>,
     sink: &mut Vec<u8, A>,
 ) -> Result<(), EncodeError>
-    ensures appends { AppendsSubsection subsection.now sink.old.items sink.new.items result }
+    ensures { AppendsSubsection subsection.now sink.old.items sink.new.items result }
 {
     match subsection {
         NameSubsection::Module(name) => append_subsection(0, &ModuleName { name }, sink),
@@ -67,11 +68,8 @@ fn append_names<A: Allocator>(
     names: &Items<Naming<'_>>,
     sink: &mut Vec<u8, A>,
 ) -> Result<(), EncodeError>
-    ensures ok { OnOk result (sink.new.items ≡ sink.old.items ++ id ∷ byte_list_bytes (items_bytes naming_bytes names.now)) }
-    ensures can { OnOk result (CountedNames names.now) }
-    ensures written { OnOk result (All (λ n. IsMinimal naming.Encodes naming.bytes (naming_parts n)) names.now) }
-    ensures refused { IfErr result (IsRefusal CountedNames OnlyTooLong names.now) }
-    ensures kept { take (length sink.old.items) sink.new.items ≡ sink.old.items }
+    ensures { Appends (id ∷ byte_list_bytes (items_bytes naming_bytes names.now)) (CountedNames names.now)
+        (All (λ n. IsMinimal naming.Encodes naming.bytes (naming_parts n)) names.now) sink.old.items sink.new.items result }
 {
     let items = names.as_slice();
     append_subsection(id, &ListItems { items }, sink)
@@ -83,11 +81,8 @@ fn append_items<A: Allocator>(
     items: &Items<IndirectNaming<'_>>,
     sink: &mut Vec<u8, A>,
 ) -> Result<(), EncodeError>
-    ensures ok { OnOk result (sink.new.items ≡ sink.old.items ++ id ∷ byte_list_bytes (items_bytes indirect_bytes items.now)) }
-    ensures can { OnOk result (CountedItems items.now) }
-    ensures written { OnOk result (All (λ i. IsMinimal indirect_naming.Encodes indirect_naming.bytes (indirect_parts i)) items.now) }
-    ensures refused { IfErr result (IsRefusal CountedItems OnlyTooLong items.now) }
-    ensures kept { take (length sink.old.items) sink.new.items ≡ sink.old.items }
+    ensures { Appends (id ∷ byte_list_bytes (items_bytes indirect_bytes items.now)) (CountedItems items.now)
+        (All (λ i. IsMinimal indirect_naming.Encodes indirect_naming.bytes (indirect_parts i)) items.now) sink.old.items sink.new.items result }
 {
     let items = items.as_slice();
     append_subsection(id, &ListItems { items }, sink)
@@ -99,11 +94,8 @@ fn append_unknown<A: Allocator>(
     bytes: &[u8],
     sink: &mut Vec<u8, A>,
 ) -> Result<(), EncodeError>
-    ensures ok { OnOk result (sink.new.items ≡ sink.old.items ++ id ∷ byte_list_bytes bytes.now) }
+    ensures appends { Appends (id ∷ byte_list_bytes bytes.now) (IsCount (length bytes.now)) ⊤ sink.old.items sink.new.items result }
     ensures range { (id < 256) × IsBytes bytes.now }
-    ensures can { OnOk result (IsCount (length bytes.now)) }
-    ensures refused { IfErr result (IsCountRefusal (length bytes.now)) }
-    ensures kept { take (length sink.old.items) sink.new.items ≡ sink.old.items }
 {
     are_bytes(bytes);
     sink.reserve(1)?;

@@ -1,18 +1,21 @@
-use Rattle.std.proofs.Common.{◌≡◌, [], ◌∷◌, ◌++◌}
-use Rattle.wasm_externals.proofs.ExternalLaws.{where_both_ok, where_ok}
-use Rattle.wasm_custom_sections.specs.formats.CoreStacks.{frame_of}
-use Rattle.wasm_custom_sections.proofs.CoreStackLaws.{frame_appended, frame_written}
+use Rattle.std.proofs.Common.{◌≡◌, [], ◌∷◌, ◌++◌, append_assoc}
+use Rattle.wasm_codec.specs.Leb128.{unsigned_leb128}
+use Rattle.wasm_codec.specs.Lists.{items_bytes}
+use Rattle.wasm_externals.proofs.AppendLaws.{appends_after, appends_more, list_appends}
+use Rattle.wasm_externals.proofs.ExternalLaws.{four, two}
+use Rattle.wasm_custom_sections.specs.formats.CoreStacks.{core_frame, core_value, frame_of}
+use Rattle.wasm_custom_sections.proofs.CoreStackLaws.{frame_written}
 use Rattle.wasm_custom_sections.proofs.core_stacks.append_frame.Goals as goal
 
-pub returns-clause-ok : goal.returns-clause-ok
-returns-clause-ok g c =
+pub returns : goal.returns
+unfolding core_frame
+returns g c =
     let item = c.args.item.now in
-    let frame = frame_of (item.instance_index, (item.function_index, (item.code_offset, (item.locals.now, item.stack.now)))) in
     let first : c.push_reserved.new.self.items ≡ c.args.sink.now.items ++ 0x00 ∷ [] = rw (← c.in_ok-reserve.ensures.items) c.push_reserved.ensures.items in
-    where_ok c.encode_list-2.result (frame_appended frame c.args.sink.now.items c.push_reserved.new.self.items c.put_u32.new.bytes.items c.put_u32-2.new.bytes.items c.put_u32-3.new.bytes.items c.encode_list.new.sink.items c.encode_list-2.new.sink.items first c.put_u32.ensures.items c.put_u32-2.ensures.items c.put_u32-3.ensures.items c.in_ok-encode_list.ensures.ok) c.encode_list-2.ensures.ok
-
-pub returns-clause-written : goal.returns-clause-written
-returns-clause-written g c =
-    let item = c.args.item.now in
-    let frame = frame_of (item.instance_index, (item.function_index, (item.code_offset, (item.locals.now, item.stack.now)))) in
-    where_both_ok c.encode_list-2.result (λ can. frame_written frame c.put_u32.ensures.minimal c.put_u32-2.ensures.minimal c.put_u32-3.ensures.minimal c.in_ok-encode_list.ensures.can.0 c.in_ok-encode_list.ensures.written can.0) c.encode_list-2.ensures.can c.encode_list-2.ensures.written
+    let numbers = four c.args.sink.now.items (0x00 ∷ []) (unsigned_leb128 item.instance_index) (unsigned_leb128 item.function_index) (unsigned_leb128 item.code_offset) c.push_reserved.new.self.items c.put_u32.new.bytes.items c.put_u32-2.new.bytes.items c.put_u32-3.new.bytes.items first c.put_u32.ensures.items c.put_u32-2.ensures.items c.put_u32-3.ensures.items in
+    let locals = c.in_ok-encode_list.ensures in
+    let before = two c.args.sink.now.items _ (items_bytes core_value.bytes item.locals.now) c.put_u32-3.new.bytes.items c.encode_list.new.sink.items numbers locals.ok in
+    let call = c.encode_list-2.ensures in
+    appends_more (simp append_assoc) (λ can. (locals.can.0, can)) (λ both. both.1)
+    (λ can list. frame_written (frame_of (item.instance_index, (item.function_index, (item.code_offset, (item.locals.now, item.stack.now))))) c.put_u32.ensures.minimal c.put_u32-2.ensures.minimal c.put_u32-3.ensures.minimal locals.can.0 locals.written list.0 list.1)
+    (appends_after _ before (list_appends item.stack.now call.ok call.can call.written call.refused call.err))

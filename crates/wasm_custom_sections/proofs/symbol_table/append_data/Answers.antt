@@ -1,13 +1,19 @@
-use Rattle.std.proofs.Common.{◌≡◌, [], ◌∷◌, ◌++◌}
-use Rattle.wasm_externals.proofs.ExternalLaws.{where_ok}
+use Rattle.std.proofs.Common.{◌≡◌, [], ◌∷◌, ◌++◌, append_assoc, rules}
+use Rattle.wasm_codec.specs.Leb128.{unsigned_leb128}
+use Rattle.wasm_externals.specs.formats.Names.{name}
+use Rattle.wasm_externals.proofs.AppendLaws.{appends_after, appends_more, appends_or_not}
+use Rattle.wasm_externals.proofs.ExternalLaws.{three}
 use Rattle.wasm_custom_sections.specs.formats.SymbolParts.{data_parts}
-use Rattle.wasm_custom_sections.proofs.SymbolLaws.{data_appended, data_there}
+use Rattle.wasm_custom_sections.specs.formats.Symbols.{data_symbol}
+use Rattle.wasm_custom_sections.proofs.SymbolLaws.{data_there}
 use Rattle.wasm_custom_sections.proofs.symbol_table.append_data.Goals as goal
 
-pub returns-clause-ok : goal.returns-clause-ok
-returns-clause-ok g c =
+pub returns : goal.returns
+unfolding data_symbol
+returns g c =
+    let item = data_parts c.args.item.now in
     let first : c.push_reserved.new.self.items ≡ c.args.sink.now.items ++ 1 ∷ [] = rw (← c.in_ok-reserve.ensures.items) c.push_reserved.ensures.items in
-    where_ok c.append_definition_if.result (data_appended (data_parts c.args.item.now) c.is_defined.result c.is_defined.ensures c.args.sink.now.items c.push_reserved.new.self.items c.put_u32.new.bytes.items c.append_name.new.sink.items c.append_definition_if.new.sink.items first c.put_u32.ensures.items c.in_ok-append_name.ensures.ok) c.append_definition_if.ensures.ok
-
-pub returns-clause-written : goal.returns-clause-written
-returns-clause-written g c = where_ok c.append_definition_if.result (data_there (data_parts c.args.item.now) c.is_defined.result c.is_defined.ensures c.put_u32.ensures.minimal c.in_ok-append_name.ensures.written) c.append_definition_if.ensures.written
+    let text = c.in_ok-append_name.ensures in
+    let before = three c.args.sink.now.items (1 ∷ []) (unsigned_leb128 item.flags) (name.bytes item.name) c.push_reserved.new.self.items c.put_u32.new.bytes.items c.append_name.new.sink.items first c.put_u32.ensures.items text.ok in
+    let call = rw c.is_defined.ensures at c.append_definition_if.ensures in
+    appends_more (simp append_assoc) (λ can. text.can) (λ can. tt) (λ can. data_there item c.put_u32.ensures.minimal text.written) (appends_after _ before (appends_or_not {Can = Unit {0}} call.ok (search rules) call.written (search rules) call.err))
