@@ -28,3 +28,4 @@ pub mod RawRewriting
 pub mod RefusalNumbers
 pub mod Skipping
 pub mod StreamLaws
+pub mod AppendLaws

@@ -12,7 +12,7 @@ use Rattle.wasm_codec.specs.formats.Numbers.{EncodesU32}
 use Rattle.wasm_codec.proofs.BodyLaws.{Lawful-body, Lawful-sized}
 use Rattle.wasm_codec.proofs.FormatLaws.{IsFound, Lawful-both, Lawful-items, Lawful-made, Lawful-one-byte, Lawful-u32, takes_bytes}
 use Rattle.wasm_codec.proofs.NumberLaws.{written}
-use Rattle.wasm_externals.proofs.ExternalLaws.{three}
+use Rattle.wasm_codec.proofs.AppendLaws.{three}
 use Rattle.wasm_lists.specs.EncodedLists.{EncodedItems}
 use Rattle.wasm_lists.proofs.EncodedListLaws.{all_in_range, counted_or, which}
 use Rattle.wasm_lists.proofs.WrittenLists.{in_range_of}

@@ -14,8 +14,7 @@ use Rattle.wasm_codec.proofs.FormatLaws.{Every-made, Lawful-both, Lawful-made, L
 use Rattle.wasm_codec.proofs.NumberLaws.{written}
 use Rattle.wasm_externals.specs.formats.Names.{name}
 use Rattle.wasm_externals.specs.formats.PartCombinators.{part_if, some_of}
-use Rattle.wasm_externals.proofs.AppendLaws.{appends_as}
-use Rattle.wasm_externals.proofs.ExternalLaws.{three}
+use Rattle.wasm_codec.proofs.AppendLaws.{appends_as, three}
 use Rattle.wasm_externals.proofs.NameLaws.{name_is_lawful, in_name}
 use Rattle.wasm_externals.proofs.PartCombinatorLaws.{Lawful-part-if}
 use Rattle.wasm_lists.specs.EncodedLists.{EncodedItems, IsFull, IsMemoryOrTooLong, IsUncounted}

@@ -15,8 +15,8 @@ use Rattle.wasm_codec.specs.declared.reader.cursor.Fault.TheVariants as faults
 use Rattle.wasm_codec.specs.formats.Combinators.{Format}
 use Rattle.wasm_codec.specs.formats.Grammar.{IsBytes}
 use Rattle.wasm_codec.proofs.BodyLaws.{Lawful-body}
+use Rattle.wasm_codec.proofs.AppendLaws.{two}
 use Rattle.wasm_externals.specs.formats.Names.{name}
-use Rattle.wasm_externals.proofs.ExternalLaws.{two}
 use Rattle.wasm_code.specs.DecodedPrefixes.{IsNothingOr}
 use Rattle.wasm_sections.specs.formats.Sections.{custom_body}
 use Rattle.wasm_sections.proofs.CustomLaws.{body_counted, custom_written}

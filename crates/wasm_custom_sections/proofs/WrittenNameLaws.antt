@@ -18,7 +18,7 @@ use Rattle.wasm_codec.proofs.NumberLaws.{written}
 use Rattle.wasm_lists.proofs.WrittenLists.{in_range_of}
 use Rattle.wasm_sections.specs.WrittenSections.{CountedList}
 use Rattle.wasm_externals.specs.formats.Names.{name}
-use Rattle.wasm_externals.proofs.AppendLaws.{appends_more}
+use Rattle.wasm_codec.proofs.AppendLaws.{appends_more, where_both_ok}
 use Rattle.wasm_externals.proofs.NameLaws.{in_name}
 use Rattle.wasm_custom_sections.specs.declared.name_maps.Naming.{Naming}
 use Rattle.wasm_custom_sections.specs.declared.name_maps.IndirectNaming.{IndirectNaming}
@@ -75,10 +75,6 @@ indirect_written item index can all = written indirect_is_lawful.minimal (indire
 
 -- ---- subsections
 
-where_written : {X E : Type 0} {P Q : Type 0} (r : Result X E) (s : NameSubsection) → (P → Q → IsWrittenSubsection s) → OnOk r P → OnOk r Q → OnOk r (IsWrittenSubsection s)
-where_written (Ok x) s f p q = f p q
-where_written (Err e) s f p q = tt
-
 -- a subsection of this kind with these contents
 module _ {V : Type 0} {id : ℕ} {make : V → SubsectionParts} {F : Format V} (kind : IsKind id make F) (s : NameSubsection) (v : V) (parts : subsection_parts s ≡ make v) (content : subsection_content s ≡ F.bytes v) where
   bytes_are : subsection_bytes s ≡ id ∷ byte_list_bytes (F.bytes v)
@@ -128,16 +124,12 @@ text_refused s text (Err e) counts (inl (inl memory)) = inl memory
 text_refused s text (Err e) counts (inl (inr (cannot, is))) = inr (λ can. cannot (counts can).0, is)
 text_refused s text (Err e) counts (inr (is, long)) = inr (λ can. let few : length (name.bytes text) < 2 ^ 32 = (counts can).1 in omega (arith, few, long), is)
 
-both : {X E : Type 0} {P Q R : Type 0} (r : Result X E) → (P → Q → R) → OnOk r P → OnOk r Q → OnOk r R
-both (Ok x) f p q = f p q
-both (Err e) f p q = tt
-
 pub module_appended : (s : NameSubsection) (text : Bor (List ℕ)) (old new : List ℕ) (r : Result (Unit {0}) EncodeError) → s ≡ read.Module text → OnOk r (new ≡ old ++ 0 ∷ byte_list_bytes (name.bytes text.now)) → OnOk r (IsCount (length text.now)) → OnOk r (IsCount (length (name.bytes text.now)))
     → OnOk r (IsMinimal name.Encodes name.bytes text.now) → IfErr r (λ e. ((e ≡ Memory) ⊎ ((IsCount (length text.now) → ⊥) × (e ≡ TooLong))) ⊎ IsTooLong (length (name.bytes text.now)) e) → take (length old) new ≡ old → AppendsSubsection s old new r
 module_appended s text old new r is ok can few all refused kept = subst (λ (t : NameSubsection). AppendsSubsection t old new r) (sym is) (record {
   ok = kind_appended module_name_kind (read.Module text) text.now refl refl old new r ok;
-  can = both r (λ short whole. (short, whole)) can few;
-  written = where_written r (read.Module text) (λ minimal whole. kind_written module_name_kind (read.Module text) text.now refl refl (in_name text.now minimal) whole) all few;
+  can = where_both_ok r (λ short whole. (short, whole)) can few;
+  written = where_both_ok r (λ minimal whole. kind_written module_name_kind (read.Module text) text.now refl refl (in_name text.now minimal) whole) all few;
   refused = text_refused (read.Module text) text.now r (λ counted. counted) refused;
   kept = kept;
 })

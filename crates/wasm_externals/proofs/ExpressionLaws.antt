@@ -31,8 +31,8 @@ use Rattle.wasm_externals.specs.formats.PartCombinators.{Move, goes_on, ends, fa
 use Rattle.wasm_externals.specs.formats.Expressions.{opens, closed, delegated, nested, nested_by, end_call, expr}
 use Rattle.wasm_externals.specs.ClosedExpressions.{IsClosed, IsCountedExpr}
 use Rattle.wasm_externals.proofs.PartCombinatorLaws.{Lawful-until}
-use Rattle.wasm_externals.proofs.ExternalLaws.{two}
 use Rattle.wasm_codec.specs.declared.reader.cursor.Fault.TheVariants as faults
+use Rattle.wasm_codec.proofs.AppendLaws.{two}
 use Rattle.wasm_instructions.specs.declared.table.opcode.Prefix.TheVariants as prefixes
 use Rattle.wasm_instructions.specs.declared.table.opcode.Kind.TheVariants as kinds
 use Rattle.wasm_instructions.specs.declared.table.call.Operands.TheVariants as operands

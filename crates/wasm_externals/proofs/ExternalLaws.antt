@@ -1,8 +1,6 @@
 -- The laws of types of imports and exports, and what is read, rewritten and written of them.
-use Rattle.std.proofs.Common.{◌≡◌, [], ◌∷◌, Bool, true, false, Some, refl, ap, ◌∙◌, lit≤, ℕ, List, Option, None, IfSome, sym, ◌++◌, ◌+◌, ◌^◌, ◌<◌, length, take, drop, append_assoc, Result, Ok, Err, OnOk, OnErr}
+use Rattle.std.proofs.Common.{◌≡◌, [], ◌∷◌, Bool, true, false, Some, refl, ap, ◌∙◌, lit≤, ℕ, List, Option, None, IfSome, ◌++◌, ◌+◌, ◌^◌, ◌<◌}
 use Rattle.std.specs.Prelude.{is_some, IfSome}
-use Rattle.std.proofs.lemmas.List.{append-nil, take-append-drop}
-use Rattle.std.proofs.Math.Seq.{take-append_seam}
 use Rattle.wasm_codec.specs.formats.Combinators.{u32, u64}
 use Rattle.wasm_codec.specs.Lawful.{IsLawful}
 use Rattle.wasm_codec.specs.formats.Grammar.{TakesBytes}
@@ -18,6 +16,7 @@ use Rattle.wasm_types.specs.TypeRanges.{HeapTypeFits, ValTypeFits}
 use Rattle.wasm_types.proofs.TypeFormatLaws.{Lawful-ref-type, Lawful-val-type}
 use Rattle.wasm_lists.proofs.WrittenLists.{in_range_of}
 use Rattle.wasm_types.proofs.WrittenTypes.{ref_written, val_in_range}
+use Rattle.wasm_codec.proofs.AppendLaws.{two, four}
 use Rattle.wasm_externals.specs.declared.limits.MemoryType.{MemoryType}
 use Rattle.wasm_externals.specs.declared.limits.TableType.{TableType}
 use Rattle.wasm_externals.specs.declared.types.TagKind.{TagKind}
@@ -188,46 +187,6 @@ paged_is (false, (false, true)) b e = ap (λ (n : ℕ). Some (n + 8)) (some_is 4
 paged_is (true, (false, true)) b e = ap (λ (n : ℕ). Some (n + 8)) (some_is 5 b e)
 paged_is (false, (true, true)) b e = ap (λ (n : ℕ). Some (n + 8)) (some_is 6 b e)
 paged_is (true, (true, true)) b e = ap (λ (n : ℕ). Some (n + 8)) (some_is 7 b e)
-
--- ---- parts one after the other
-
-pub two : (old a b one new : List ℕ) → one ≡ old ++ a → new ≡ one ++ b → new ≡ old ++ (a ++ b)
-two old a b one new p q = q ∙ ap (λ (l : List ℕ). l ++ b) p ∙ append_assoc old a b
-
-pub three : (old a b c one more new : List ℕ) → one ≡ old ++ a → more ≡ one ++ b → new ≡ more ++ c → new ≡ old ++ (a ++ (b ++ c))
-three old a b c one more new p q r = two old a (b ++ c) one new p (two one b c more new q r)
-
-pub four : (old a b c d one more most new : List ℕ) → one ≡ old ++ a → more ≡ one ++ b → most ≡ more ++ c → new ≡ most ++ d → new ≡ old ++ (a ++ (b ++ (c ++ d)))
-four old a b c d one more most new p q r s = two old a (b ++ (c ++ d)) one new p (three one b c d more most new q r s)
-
--- what stood before that was appended stands there still
-pub kept_after : (old more new : List ℕ) → new ≡ old ++ more → take (length old) new ≡ old
-kept_after old more new e = ap (take (length old)) e ∙ take-append_seam old more
-
-pub kept_either : {T E : Type 0} (r : Result T E) (old more new : List ℕ) → OnOk r (new ≡ old ++ more) → OnErr r (new ≡ old) → take (length old) new ≡ old
-kept_either (Ok x) old more new written left = kept_after old more new written
-kept_either (Err e) old more new written left = kept_after old [] new (left ∙ sym (append-nil old))
-
--- what is known where all was written
-pub where_ok : {T E : Type 0} (r : Result T E) {P Q : Type 0} → (P → Q) → OnOk r P → OnOk r Q
-where_ok (Ok x) f p = f p
-where_ok (Err e) f p = p
-
-pub where_both_ok : {T E : Type 0} (r : Result T E) {P Q R : Type 0} → (P → Q → R) → OnOk r P → OnOk r Q → OnOk r R
-where_both_ok (Ok x) f p q = f p q
-where_both_ok (Err e) f p q = p
-
--- what was written last left all that stood before
-pub kept_at_last : {T E : Type 0} (r : Result T E) (old more mid last new : List ℕ) → mid ≡ old ++ more → OnOk r (new ≡ mid ++ last) → OnErr r (new ≡ mid) → take (length old) new ≡ old
-kept_at_last (Ok x) old more mid last new before written left = kept_after old (more ++ last) new (two old more last mid new before written)
-kept_at_last (Err e) old more mid last new before written left = kept_after old more new (left ∙ before)
-
--- what stood before more that was appended stands there still
-pub kept_before : (old more mid new : List ℕ) → mid ≡ old ++ more → take (length mid) new ≡ mid → take (length old) new ≡ old
-kept_before old more mid new is kept =
-    let left = drop (length mid) new in
-    let whole : new ≡ old ++ (more ++ left) = sym (take-append-drop (length mid) new) ∙ ap (λ (t : List ℕ). t ++ left) (kept ∙ is) ∙ append_assoc old more left in
-    ap (take (length old)) whole ∙ take-append_seam old (more ++ left)
 
 -- ---- memories and tables
 

@@ -3,4 +3,3 @@ pub mod NameLaws
 pub mod ExternalLaws
 pub mod ExpressionLaws
 pub mod ScannedEntities
-pub mod AppendLaws

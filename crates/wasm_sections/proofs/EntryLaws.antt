@@ -9,6 +9,7 @@ use Rattle.wasm_codec.specs.formats.Numbers.{EncodesU32}
 use Rattle.wasm_codec.specs.Encoding.{IsMinimal}
 use Rattle.wasm_codec.proofs.FormatLaws.{Every-after, Every-made, Lawful-after, Lawful-or-after, Lawful-or-else, Lawful-made, Lawful-both, Lawful-u32, takes_bytes}
 use Rattle.wasm_codec.proofs.NumberLaws.{written}
+use Rattle.wasm_codec.proofs.AppendLaws.{three, two}
 use Rattle.wasm_types.specs.formats.Types.{ref_type, val_type, abstract_type}
 use Rattle.wasm_lists.proofs.WrittenLists.{in_range_of}
 use Rattle.wasm_instructions.specs.formats.Instructions.{Instruction}
@@ -25,7 +26,7 @@ use Rattle.wasm_externals.specs.declared.limits.TableType.{TableType}
 use Rattle.wasm_externals.specs.formats.Expressions.{expr}
 use Rattle.wasm_externals.specs.declared.types.ExportKind.TheVariants as kinds
 use Rattle.wasm_externals.proofs.NameLaws.{name_is_lawful, in_name}
-use Rattle.wasm_externals.proofs.ExternalLaws.{Lawful-entity-type, Lawful-export-kind, Lawful-table-type, Lawful-global-type, three, two}
+use Rattle.wasm_externals.proofs.ExternalLaws.{Lawful-entity-type, Lawful-export-kind, Lawful-table-type, Lawful-global-type}
 use Rattle.wasm_externals.proofs.ExpressionLaws.{expr_is_lawful, in_expr}
 
 pub export_is_lawful : IsLawful export_entry

@@ -1,7 +1,6 @@
 use Rattle.std.proofs.Common.{◌≡◌, [], ◌∷◌, ◌++◌, refl, rules}
 use Rattle.wasm_externals.specs.formats.Names.{name}
-use Rattle.wasm_externals.proofs.AppendLaws.{appends_after, appends_more, appends_or_not}
-use Rattle.wasm_externals.proofs.ExternalLaws.{two}
+use Rattle.wasm_codec.proofs.AppendLaws.{appends_after, appends_more, appends_or_not, two}
 use Rattle.wasm_custom_sections.proofs.CoreStackLaws.{stack_holds}
 use Rattle.wasm_custom_sections.proofs.core_stacks.append_contents.Goals as goal
 
@@ -12,4 +11,4 @@ returns g c =
     let text = c.in_ok-append_name.ensures in
     let before = two c.args.sink.now.items (0x00 ∷ []) (name.bytes item.name.now) c.push_reserved.new.self.items c.append_name.new.sink.items first text.ok in
     let call = c.encode.ensures in
-    appends_more refl (λ can. text.can) (λ can. tt) (λ can. stack_holds (record { name = item.name.now; frames = item.frames.now }) text.written) (appends_after _ before (appends_or_not call.ok call.can call.written (search rules) call.err))
+    appends_more refl (λ can. text.can) (λ can. tt) (λ can. stack_holds (record { name = item.name.now; frames = item.frames.now }) text.written) (appends_after _ (appends_or_not call.ok call.can call.written (search rules) call.err) before)

@@ -1,8 +1,7 @@
 use Rattle.std.proofs.Common.{◌≡◌, [], ◌∷◌, ◌++◌, append_assoc}
 use Rattle.wasm_codec.specs.Leb128.{unsigned_leb128}
 use Rattle.wasm_codec.specs.Lists.{items_bytes}
-use Rattle.wasm_externals.proofs.AppendLaws.{appends_after, appends_more, list_appends}
-use Rattle.wasm_externals.proofs.ExternalLaws.{four, two}
+use Rattle.wasm_codec.proofs.AppendLaws.{appends_after, appends_more, four, list_appends, two}
 use Rattle.wasm_custom_sections.specs.formats.CoreStacks.{core_frame, core_value, frame_of}
 use Rattle.wasm_custom_sections.proofs.CoreStackLaws.{frame_written}
 use Rattle.wasm_custom_sections.proofs.core_stacks.append_frame.Goals as goal
@@ -18,4 +17,4 @@ returns g c =
     let call = c.encode_list-2.ensures in
     appends_more (simp append_assoc) (λ can. (locals.can.0, can)) (λ both. both.1)
     (λ can list. frame_written (frame_of (item.instance_index, (item.function_index, (item.code_offset, (item.locals.now, item.stack.now))))) c.put_u32.ensures.minimal c.put_u32-2.ensures.minimal c.put_u32-3.ensures.minimal locals.can.0 locals.written list.0 list.1)
-    (appends_after _ before (list_appends item.stack.now call.ok call.can call.written call.refused call.err))
+    (appends_after _ (list_appends item.stack.now call.ok call.can call.written call.refused call.err) before)

@@ -1,5 +1,5 @@
 use Rattle.std.proofs.Common.{◌≡◌, [], ◌∷◌, ◌++◌}
-use Rattle.wasm_externals.proofs.AppendLaws.{appended}
+use Rattle.wasm_codec.proofs.AppendLaws.{appended}
 use Rattle.wasm_custom_sections.proofs.SymbolLaws.{section_appended, section_there}
 use Rattle.wasm_custom_sections.proofs.symbol_table.append_section.Goals as goal
 

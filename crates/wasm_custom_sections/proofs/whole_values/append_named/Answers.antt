@@ -1,5 +1,5 @@
 use Rattle.std.proofs.Common.{◌≡◌, length, arith}
-use Rattle.wasm_externals.proofs.ExternalLaws.{where_ok}
+use Rattle.wasm_codec.proofs.AppendLaws.{where_ok}
 use Rattle.wasm_custom_sections.proofs.WholeValueLaws.{named_written}
 use Rattle.wasm_custom_sections.proofs.whole_values.append_named.Goals as goal
 

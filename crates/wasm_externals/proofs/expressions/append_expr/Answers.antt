@@ -1,5 +1,5 @@
 use Rattle.std.proofs.Common.{◌≡◌, [], ◌∷◌, ◌++◌}
-use Rattle.wasm_externals.proofs.AppendLaws.{appended}
+use Rattle.wasm_codec.proofs.AppendLaws.{appended}
 use Rattle.wasm_externals.proofs.ExpressionLaws.{expr_appended, expr_counted, expr_written}
 use Rattle.wasm_externals.proofs.expressions.append_expr.Goals as goal
 

@@ -1,6 +1,5 @@
 use Rattle.wasm_externals.specs.formats.Names.{name}
-use Rattle.wasm_externals.proofs.AppendLaws.{appends_or_not, count_refused}
-use Rattle.wasm_externals.proofs.ExternalLaws.{where_ok}
+use Rattle.wasm_codec.proofs.AppendLaws.{appends_or_not, count_refused, where_ok}
 use Rattle.wasm_externals.proofs.NameLaws.{name_written}
 use Rattle.wasm_externals.proofs.names.append_name.Goals as goal
 

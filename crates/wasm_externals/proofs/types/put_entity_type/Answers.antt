@@ -1,7 +1,8 @@
 use Rattle.std.proofs.Common.{[], ◌∷◌}
 use Rattle.wasm_codec.specs.Leb128.{unsigned_leb128}
+use Rattle.wasm_codec.proofs.AppendLaws.{two}
 use Rattle.wasm_externals.specs.formats.Externals.{memory_type, table_type, global_type, tag_type, entity_type}
-use Rattle.wasm_externals.proofs.ExternalLaws.{two, function_entity_written, table_entity_written, memory_entity_written, global_entity_written, tag_entity_written, exact_entity_written}
+use Rattle.wasm_externals.proofs.ExternalLaws.{function_entity_written, table_entity_written, memory_entity_written, global_entity_written, tag_entity_written, exact_entity_written}
 use Rattle.wasm_externals.proofs.types.put_entity_type.Goals as goal
 
 pub returns-in-Function-clause-items : goal.returns-in-Function-clause-items

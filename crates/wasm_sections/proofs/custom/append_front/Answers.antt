@@ -1,10 +1,10 @@
 use Rattle.std.proofs.Common.{subst}
 use Rattle.wasm_codec.specs.Encoding.{IsCount}
 use Rattle.wasm_codec.specs.Leb128.{unsigned_leb128}
+use Rattle.wasm_codec.proofs.AppendLaws.{kept_before, where_ok}
 use Rattle.wasm_sections.specs.formats.EntryParts.{custom_parts}
 use Rattle.wasm_sections.proofs.CustomLaws.{custom_written, front_appended}
 use Rattle.wasm_sections.proofs.ModuleSectionLaws.{custom_section_written}
-use Rattle.wasm_externals.proofs.ExternalLaws.{kept_before, where_ok}
 use Rattle.wasm_sections.proofs.custom.append_front.Goals as goal
 
 pub returns-clause-ok : goal.returns-clause-ok

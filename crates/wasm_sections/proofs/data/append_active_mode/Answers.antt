@@ -4,7 +4,7 @@ use Rattle.std.proofs.Common.{arith}
 use Rattle.std.proofs.lemmas.Bool.{ne_eqb}
 use Rattle.wasm_lists.proofs.WrittenLists.{in_range_of}
 use Rattle.wasm_sections.proofs.SegmentLaws.{data_mode_fits, first_memory_bytes, other_memory_bytes}
-use Rattle.wasm_externals.proofs.AppendLaws.{appends_as}
+use Rattle.wasm_codec.proofs.AppendLaws.{appends_as}
 use Rattle.wasm_sections.proofs.data.append_active_mode.Goals as goal
 
 pub returns-then-memory_index-eq0 : goal.returns-then-memory_index-eq0

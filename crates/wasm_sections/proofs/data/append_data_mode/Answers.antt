@@ -1,6 +1,6 @@
 use Rattle.std.proofs.Common.{◌≡◌, ◌++◌}
 use Rattle.wasm_codec.specs.Leb128.{unsigned_leb128}
-use Rattle.wasm_externals.proofs.AppendLaws.{appended}
+use Rattle.wasm_codec.proofs.AppendLaws.{appended}
 use Rattle.wasm_sections.proofs.data.append_data_mode.Goals as goal
 
 pub returns-in_ok-reserve-in-Passive : goal.returns-in_ok-reserve-in-Passive

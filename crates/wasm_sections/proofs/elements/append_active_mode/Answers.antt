@@ -4,7 +4,7 @@ use Rattle.wasm_codec.proofs.FormatLaws.{Lawful-u32}
 use Rattle.wasm_lists.proofs.WrittenLists.{in_range_of}
 use Rattle.wasm_sections.specs.SegmentBytes.{is_short}
 use Rattle.wasm_sections.proofs.ElementLaws.{element_mode_fits, not_both, named_bytes, unnamed_bytes}
-use Rattle.wasm_externals.proofs.AppendLaws.{appends_as}
+use Rattle.wasm_codec.proofs.AppendLaws.{appends_as}
 use Rattle.wasm_sections.proofs.elements.append_active_mode.Goals as goal
 
 pub returns-then-is_short : goal.returns-then-is_short

@@ -2,10 +2,10 @@ use Rattle.std.proofs.Common.{◌≡◌, ◌+◌, ◌++◌, ◌∷◌, [], take,
 use Rattle.std.specs.List.{All}
 use Rattle.std.proofs.lemmas.List.{take_all, take_more}
 use Rattle.std.proofs.lemmas.List.Elements.{All-push}
+use Rattle.wasm_codec.proofs.AppendLaws.{kept_after}
 use Rattle.wasm_lists.proofs.WrittenLists.{one_more}
 use Rattle.wasm_externals.specs.ClosedExpressions.{IsCountedExpr, IsWrittenExpr}
 use Rattle.wasm_externals.specs.formats.Expressions.{expr}
-use Rattle.wasm_externals.proofs.ExternalLaws.{kept_after}
 use Rattle.wasm_sections.proofs.elements.append_each_expression.Goals as goal
 
 pub loop-expression-preserved : goal.loop-expression-preserved

@@ -1,5 +1,5 @@
 use Rattle.wasm_sections.proofs.ElementLaws.{element_parts, element_written}
-use Rattle.wasm_externals.proofs.AppendLaws.{appends_after, appends_more}
+use Rattle.wasm_codec.proofs.AppendLaws.{appends_after, appends_more}
 use Rattle.wasm_sections.proofs.elements.append_element.Goals as goal
 
 pub returns : goal.returns
@@ -8,4 +8,4 @@ returns g c =
     let mode = c.in_ok-append_element_mode.ensures in
     let form = c.number_of-form.result in
     let short = c.is_short.result in
-    appends_more (element_parts element form short c.number_of-form.ensures c.is_short.ensures) (λ can. (mode.can, can)) (λ both. both.1) (λ can. element_written element form short c.number_of-form.ensures c.is_short.ensures mode.written) (appends_after _ mode.ok c.append_elements.ensures)
+    appends_more (element_parts element form short c.number_of-form.ensures c.is_short.ensures) (λ can. (mode.can, can)) (λ both. both.1) (λ can. element_written element form short c.number_of-form.ensures c.is_short.ensures mode.written) (appends_after _ c.append_elements.ensures mode.ok)

@@ -1,7 +1,6 @@
-use Rattle.std.proofs.Common.{◌≡◌, ◌++◌, rules}
+use Rattle.std.proofs.Common.{rules}
 use Rattle.wasm_sections.proofs.ElementLaws.{functions_fit, expressions_fit, type_fits, not_both}
-use Rattle.wasm_externals.proofs.AppendLaws.{appends_after, appends_as, appends_or_not}
-use Rattle.wasm_externals.proofs.ExternalLaws.{where_both_ok}
+use Rattle.wasm_codec.proofs.AppendLaws.{appends_after, appends_as, appends_or_not, where_both_ok}
 use Rattle.wasm_types.specs.formats.Types.{ref_type}
 use Rattle.wasm_sections.proofs.elements.append_elements.Goals as goal
 
@@ -25,7 +24,6 @@ returns-then-short-2 g c =
 
 pub returns-in_ok-reserve-in-Expressions : goal.returns-in_ok-reserve-in-Expressions
 returns-in_ok-reserve-in-Expressions g c =
-    let first : c.put_ref_type.new.bytes.items ≡ c.args.sink.now.items ++ ref_type.bytes c.in-Expressions.ty = rw (← c.reserve.ensures.items) c.put_ref_type.ensures.items in
     let call = c.encode_expressions-in-Expressions.ensures in
     let fits = where_both_ok c.encode_expressions-in-Expressions.result (λ can. expressions_fit c.args.short c.args.elements.now c.in-Expressions.ty c.in-Expressions.expressions c.as_slice-in-Expressions.result.now c.in-Expressions.is c.as_slice-in-Expressions.ensures.value (λ no. type_fits c.in-Expressions.ty c.put_ref_type.ensures.fits) can.0) call.can call.written in
-    appends_as (search rules) (λ held. held) (appends_after _ first (appends_or_not call.ok (search rules) fits (search rules) call.err))
+    appends_as (search rules) (λ held. held) (appends_after (ref_type.bytes c.in-Expressions.ty) (appends_or_not call.ok (search rules) fits (search rules) call.err) (rw (← c.reserve.ensures.items) c.put_ref_type.ensures.items))

@@ -1,4 +1,4 @@
-use Rattle.wasm_externals.proofs.ExternalLaws.{kept_before}
+use Rattle.wasm_codec.proofs.AppendLaws.{kept_before}
 use Rattle.wasm_sections.proofs.elements.append_expressions.Goals as goal
 
 pub returns-clause-kept : goal.returns-clause-kept

@@ -1,7 +1,7 @@
 use Rattle.std.proofs.Common.{◌≡◌, [], ◌∷◌, ◌++◌}
 use Rattle.wasm_sections.specs.formats.EntryParts.{export_parts}
 use Rattle.wasm_sections.proofs.EntryLaws.{export_appended, export_written}
-use Rattle.wasm_externals.proofs.AppendLaws.{appended}
+use Rattle.wasm_codec.proofs.AppendLaws.{appended}
 use Rattle.wasm_sections.proofs.exports.append_export.Goals as goal
 
 pub returns : goal.returns

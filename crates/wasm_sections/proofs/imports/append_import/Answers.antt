@@ -1,8 +1,7 @@
 use Rattle.std.proofs.Common.{rules}
 use Rattle.wasm_sections.specs.formats.EntryParts.{import_parts}
 use Rattle.wasm_sections.proofs.EntryLaws.{import_written, import_appended}
-use Rattle.wasm_externals.proofs.AppendLaws.{appended}
-use Rattle.wasm_externals.proofs.ExternalLaws.{kept_before}
+use Rattle.wasm_codec.proofs.AppendLaws.{appended, kept_before}
 use Rattle.wasm_sections.proofs.imports.append_import.Goals as goal
 
 pub returns-in_err-append_name-2 : goal.returns-in_err-append_name-2

@@ -4,8 +4,7 @@ use Rattle.wasm_codec.specs.Leb128.{unsigned_leb128}
 use Rattle.wasm_codec.specs.formats.Combinators.{u32}
 use Rattle.wasm_externals.specs.formats.PartCombinators.{part_if}
 use Rattle.wasm_externals.specs.formats.Expressions.{expr}
-use Rattle.wasm_externals.proofs.AppendLaws.{appends_after, appends_as, appends_or_not}
-use Rattle.wasm_externals.proofs.ExternalLaws.{two}
+use Rattle.wasm_codec.proofs.AppendLaws.{appends_after, appends_as, appends_or_not, two}
 use Rattle.wasm_sections.proofs.segments.append_table_and_offset.Goals as goal
 
 pub returns : goal.returns
@@ -15,4 +14,4 @@ returns g c =
     let first : c.put_u32.new.bytes.items ≡ c.args.sink.now.items ++ form = rw (← c.in_ok-reserve.ensures.items) c.put_u32.ensures.items in
     let before = two c.args.sink.now.items form index c.put_u32.new.bytes.items c.put_u32_if.new.bytes.items first c.put_u32_if.ensures.items in
     let call = c.encode_expr.ensures in
-    appends_as (append_assoc form index (expr.bytes c.args.offset.now)) (λ offset. (c.put_u32_if.ensures.minimal, offset)) (appends_after _ before (appends_or_not call.ok call.can call.written call.refused call.err))
+    appends_as (append_assoc form index (expr.bytes c.args.offset.now)) (λ offset. (c.put_u32_if.ensures.minimal, offset)) (appends_after _ (appends_or_not call.ok call.can call.written call.refused call.err) before)

@@ -1,6 +1,6 @@
 use Rattle.std.proofs.Common.{rules}
 use Rattle.wasm_sections.proofs.EntryLaws.{unfilled_appended, unfilled_written}
-use Rattle.wasm_externals.proofs.AppendLaws.{appended}
+use Rattle.wasm_codec.proofs.AppendLaws.{appended}
 use Rattle.wasm_sections.proofs.tables.append_table.Goals as goal
 
 pub returns-in_default : goal.returns-in_default

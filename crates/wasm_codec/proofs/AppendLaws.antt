@@ -1,10 +1,48 @@
 -- The laws of functions that append one part after the other.
-use Rattle.std.proofs.Common.{◌≡◌, ◌++◌, ◌⊎◌, ℕ, List, Result, Ok, Err, OnOk, OnErr, IfErr, inl, inr, ap, ◌∙◌, arith, length}
+use Rattle.std.proofs.Common.{◌≡◌, ◌++◌, ◌⊎◌, ℕ, [], List, length, take, drop, append_assoc, Result, Ok, Err, OnOk, OnErr, IfErr, inl, inr, ap, sym, ◌∙◌, arith}
+use Rattle.std.proofs.lemmas.List.{append-nil, take-append-drop}
+use Rattle.std.proofs.Math.Seq.{take-append_seam}
 use Rattle.wasm_codec.specs.Appending.{Appends}
 use Rattle.wasm_codec.specs.Encoding.{CanEncodeList, IsCount, IsCountRefusal, IsListRefusal}
 use Rattle.wasm_codec.specs.declared.encode.EncodeError.{EncodeError}
 use Rattle.wasm_codec.specs.declared.encode.EncodeError.TheVariants.{Memory, TooLong}
-use Rattle.wasm_externals.proofs.ExternalLaws.{kept_after, kept_before, kept_either, two}
+
+-- ---- parts
+
+pub two : (old a b one new : List ℕ) → one ≡ old ++ a → new ≡ one ++ b → new ≡ old ++ (a ++ b)
+two old a b one new p q = q ∙ ap (λ (l : List ℕ). l ++ b) p ∙ append_assoc old a b
+
+pub three : (old a b c one more new : List ℕ) → one ≡ old ++ a → more ≡ one ++ b → new ≡ more ++ c → new ≡ old ++ (a ++ (b ++ c))
+three old a b c one more new p q r = two old a (b ++ c) one new p (two one b c more new q r)
+
+pub four : (old a b c d one more most new : List ℕ) → one ≡ old ++ a → more ≡ one ++ b → most ≡ more ++ c → new ≡ most ++ d → new ≡ old ++ (a ++ (b ++ (c ++ d)))
+four old a b c d one more most new p q r s = two old a (b ++ (c ++ d)) one new p (three one b c d more most new q r s)
+
+-- what stood before that was appended stands there still
+pub kept_after : (old more new : List ℕ) → new ≡ old ++ more → take (length old) new ≡ old
+kept_after old more new e = ap (take (length old)) e ∙ take-append_seam old more
+
+pub kept_either : {T E : Type 0} (r : Result T E) (old more new : List ℕ) → OnOk r (new ≡ old ++ more) → OnErr r (new ≡ old) → take (length old) new ≡ old
+kept_either (Ok x) old more new written left = kept_after old more new written
+kept_either (Err e) old more new written left = kept_after old [] new (left ∙ sym (append-nil old))
+
+-- what is known where all was written
+pub where_ok : {T E : Type 0} (r : Result T E) {P Q : Type 0} → (P → Q) → OnOk r P → OnOk r Q
+where_ok (Ok x) f p = f p
+where_ok (Err e) f p = p
+
+pub where_both_ok : {T E : Type 0} (r : Result T E) {P Q R : Type 0} → (P → Q → R) → OnOk r P → OnOk r Q → OnOk r R
+where_both_ok (Ok x) f p q = f p q
+where_both_ok (Err e) f p q = p
+
+-- what stood before more that was appended stands there still
+pub kept_before : (old more mid new : List ℕ) → mid ≡ old ++ more → take (length mid) new ≡ mid → take (length old) new ≡ old
+kept_before old more mid new is kept =
+    let left = drop (length mid) new in
+    let whole : new ≡ old ++ (more ++ left) = sym (take-append-drop (length mid) new) ∙ ap (λ (t : List ℕ). t ++ left) (kept ∙ is) ∙ append_assoc old more left in
+    ap (take (length old)) whole ∙ take-append_seam old (more ++ left)
+
+-- ---- calls
 
 -- Memory ran out, or the value can't be written.
 abbrev IsRefused : Type 0 → EncodeError → Type 0
@@ -29,9 +67,9 @@ pub appends_or_not : {r : Result (Unit {0}) EncodeError} {bytes old new : List �
 appends_or_not {r = r} {bytes = bytes} {old = old} {new = new} ok can written refused err = record { ok = ok; can = can; written = written; refused = refused; kept = kept_either r old bytes new ok err }
 
 -- after what was appended, a call appends the last part
-pub appends_after : {r : Result (Unit {0}) EncodeError} {last old mid new : List ℕ} {Can Written : Type 0} (first : List ℕ) → mid ≡ old ++ first → Appends last Can Written mid new r → Appends (first ++ last) Can Written old new r
-appends_after {r = Ok tt} {last = last} {old = old} {mid = mid} {new = new} first put call = appended (two old first last mid new put call.ok) call.can call.written
-appends_after {r = Err e} {old = old} {mid = mid} {new = new} first put call = record { ok = tt; can = tt; written = tt; refused = call.refused; kept = kept_before old first mid new put call.kept }
+pub appends_after : {r : Result (Unit {0}) EncodeError} {last old mid new : List ℕ} {Can Written : Type 0} (first : List ℕ) → Appends last Can Written mid new r → mid ≡ old ++ first → Appends (first ++ last) Can Written old new r
+appends_after {r = Ok tt} {last = last} {old = old} {mid = mid} {new = new} first call put = appended (two old first last mid new put call.ok) call.can call.written
+appends_after {r = Err e} {old = old} {mid = mid} {new = new} first call put = record { ok = tt; can = tt; written = tt; refused = call.refused; kept = kept_before old first mid new put call.kept }
 
 -- the same bytes are the encoding of another value
 pub appends_more : {r : Result (Unit {0}) EncodeError} {bytes same old new : List ℕ} {Can Written More Whole : Type 0} → bytes ≡ same → (Can → More) → (More → Can) → (Can → Written → Whole) → Appends bytes Can Written old new r → Appends same More Whole old new r
