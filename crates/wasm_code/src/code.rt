@@ -1,6 +1,7 @@
 //! Code bodies: the locals and instructions of functions (Core 3.0, Code Section).
-ghost use Rattle.std.specs.Prelude.{◌≡◌, IfOk, IfErr, ◌++◌, ℕ, List, OnOk, OnErr, length, take};
+ghost use Rattle.std.specs.Prelude.{◌≡◌, IfOk, IfErr, ◌++◌, ℕ, List, OnOk, OnErr};
 ghost use Rattle.wasm_codec.specs.declared.encode.EncodeError.TheVariants.{Memory};
+ghost use Rattle.wasm_codec.specs.Appending.{Appends};
 ghost use Rattle.wasm_codec.specs.Encoding.{IsRefusal, IsMinimal, IsMinimalOrLonger, OnlyTooLong};
 ghost use Rattle.wasm_code.specs.CodeCounts.{CountedBody};
 ghost use Rattle.wasm_code.specs.formats.CodeBodies.{code_body};
@@ -88,11 +89,7 @@ impl Encode for CodeBody {
 /// Appends the size, the locals and the instructions of a body. On error a part of it may remain.
 #[tactic(auto, unfolding(crate::specs::formats::CodeBodies::code_body))]
 fn append_body<A: Allocator>(body: &CodeBody, sink: &mut Vec<u8, A>) -> Result<(), EncodeError>
-    ensures ok { OnOk result (sink.new.items ≡ sink.old.items ++ code_body.bytes body.now) }
-    ensures can { OnOk result (CountedBody body.now) }
-    ensures refused { IfErr result (IsRefusal CountedBody OnlyTooLong body.now) }
-    ensures in_range { OnOk result (code_body.InRange body.now) }
-    ensures kept { take (length sink.old.items) sink.new.items ≡ sink.old.items }
+    ensures { Appends (code_body.bytes body.now) (CountedBody body.now) (code_body.InRange body.now) sink.old.items sink.new.items result }
 {
     let start = sink.len();
     encode_list(body.locals.as_slice(), sink)?;

@@ -7,6 +7,7 @@ ghost use Rattle.wasm_sections.specs.formats.Sections.{custom_body};
 ghost use Rattle.wasm_codec.specs.Decoding.{ReadsAll, ChecksAll, RewritesInPlace, TakesMinimal, Decodes};
 ghost use Rattle.wasm_codec.specs.Lawful.{IsLawfulBody};
 ghost use Rattle.wasm_codec.specs.Outcomes.{IfMalformed, LiesIn, as_read, NeedsNoMemory};
+ghost use Rattle.wasm_codec.specs.Appending.{Appends};
 ghost use Rattle.wasm_codec.specs.Encoding.{byte_list_bytes, IsRefusal, IsMinimal, IsTooLong, OnlyTooLong};
 ghost use Rattle.wasm_sections.specs.formats.ModuleSectionParts.{custom};
 ghost use Rattle.wasm_sections.specs.SectionBytes.{CountedCustom, IsSectionAfter};
@@ -206,12 +207,10 @@ fn append_custom<A: Allocator>(
     section: &CustomSection<'_>,
     sink: &mut Vec<u8, A>,
 ) -> Result<(), EncodeError>
-    ensures ok { OnOk result (sink.new.items ≡ sink.old.items ++ byte_list_bytes (custom_body.bytes (custom_parts section.now))) }
-    ensures can { OnOk result (CountedCustom section.now) }
-    ensures minimal { OnOk result (IsMinimal custom_body.Encodes custom_body.bytes (custom_parts section.now)) }
-    ensures whole { OnOk result (IsSectionAfter 0 (byte_list_bytes (custom_body.bytes (custom_parts section.now))) (custom (custom_parts section.now))) }
-    ensures refused { IfErr result (IsRefusal CountedCustom OnlyTooLong section.now) }
-    ensures kept { take (length sink.old.items) sink.new.items ≡ sink.old.items }
+    ensures { Appends (byte_list_bytes (custom_body.bytes (custom_parts section.now))) (CountedCustom section.now)
+        (IsMinimal custom_body.Encodes custom_body.bytes (custom_parts section.now) ×
+        IsSectionAfter 0 (byte_list_bytes (custom_body.bytes (custom_parts section.now))) (custom (custom_parts section.now)))
+        sink.old.items sink.new.items result }
 {
     append_front(section, sink)?;
     sink.extend_from_slice(section.bytes)?;
