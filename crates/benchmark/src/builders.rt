@@ -4,7 +4,7 @@ use crate::mix::write_mix;
 use std::alloc::Global;
 use std::io::Write;
 use wasm_encoder::{
-    CodeSection, ConstExpr, CustomSection, DataSection, ElementSection, Elements, EncodeError,
+    CodeSection, ConstExpr, CustomSection, DataSection, ElementSection, EncodeError,
     EntityType, ExportKind, ExportSection, Function, GlobalSection, GlobalType, ImportSection,
     Module, ModuleWriter, TypeSection, ValType, WriteError,
 };
@@ -149,7 +149,7 @@ fn elements(alloc: Global, number: u32) -> Result<ElementSection, EncodeError> {
     let mut elements = ElementSection::new(alloc);
     for index in 0..number {
         let offset = ConstExpr::i32_const(alloc, (index % 1000) as i32)?;
-        elements.active(0, offset, Elements::functions(alloc, &INDEXES)?)?;
+        elements.active_functions(0, offset, &INDEXES)?;
     }
     Ok(elements)
 }

@@ -8,6 +8,7 @@ use Rattle.wasm_sections.specs.declared.data.ActiveData.{ActiveData}
 use Rattle.wasm_sections.specs.declared.data.DataSegmentMode.{DataSegmentMode}
 use Rattle.wasm_sections.specs.declared.data.DataSegmentMode.TheVariants as data_modes
 use Rattle.wasm_sections.specs.declared.elements.ActiveElement.{ActiveElement}
+use Rattle.wasm_sections.specs.declared.elements.ActiveFunctions.{ActiveFunctions}
 use Rattle.wasm_sections.specs.declared.elements.Element.{Element}
 use Rattle.wasm_sections.specs.declared.elements.ElementMode.{ElementMode}
 use Rattle.wasm_sections.specs.declared.elements.ElementMode.TheVariants as modes
@@ -44,6 +45,10 @@ is_short form = form == 0 || form == 4
 -- The active element segment that this borrows from.
 abbrev pub active_element : ActiveElement → Element
 active_element e = element (modes.Active e.table_index e.offset.now) e.elements.now
+
+-- The active segment of function indices that this borrows from.
+abbrev pub active_functions : ActiveFunctions → Element
+active_functions e = element (modes.Active e.table_index e.offset.now) (held.Functions e.functions.now)
 
 -- The bytes before the elements of a segment in this form.
 abbrev pub element_mode_bytes : ℕ → ElementMode → List ℕ

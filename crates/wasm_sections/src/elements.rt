@@ -1,11 +1,11 @@
 //! Element sections (Core 3.0, Element Section).
-ghost use Rattle.std.specs.Prelude.{◌≡◌, ◌<◌, true, List, length, refl, ◌++◌, ◌⊎◌, OnOk, OnErr, IfErr, take};
+ghost use Rattle.std.specs.Prelude.{◌≡◌, ◌<◌, true, List, [], length, refl, ◌++◌, ◌⊎◌, OnOk, OnErr, IfErr, take};
 ghost use Rattle.wasm_codec.specs.Places.{Reads};
 ghost use Rattle.wasm_codec.specs.Rewriter.{Rewrites};
 ghost use Rattle.wasm_codec.specs.formats.Combinators.{◌⊗◌, made, items};
 ghost use Rattle.wasm_sections.specs.declared.elements.Element.{Element};
 ghost use Rattle.wasm_sections.specs.ElementForms.{RewritesForm, place_at, mode_at, elements_at};
-ghost use Rattle.wasm_sections.specs.formats.Elements.{is_funcref, typed_of, typed_part, element_number, element_form, kind_and_functions, element_segment};
+ghost use Rattle.wasm_sections.specs.formats.Elements.{functions_number, is_funcref, typed_of, typed_part, element_number, element_form, kind_and_functions, element_segment};
 ghost use Rattle.wasm_types.specs.formats.Types.{ref_type};
 ghost use Rattle.wasm_instructions.specs.formats.Instructions.{Instruction};
 ghost use Rattle.wasm_externals.specs.formats.Expressions.{expr};
@@ -15,7 +15,7 @@ ghost use Rattle.wasm_codec.specs.Encoding.{CanEncodeList, IsListRefusal, IsMini
 ghost use Rattle.wasm_codec.specs.declared.encode.EncodeError.TheVariants.{Memory};
 ghost use Rattle.wasm_sections.specs.ClosedEntries.{AreClosed, AreCounted, IsClosedElement, IsClosedMode, IsCountedElement, IsCountedMode};
 ghost use Rattle.wasm_externals.specs.ClosedExpressions.{IsClosed, IsCountedExpr, IsWrittenExpr};
-ghost use Rattle.wasm_sections.specs.SegmentBytes.{active_element, ElementModeFits, ElementsFit, element_mode_bytes, elements_bytes, is_short};
+ghost use Rattle.wasm_sections.specs.SegmentBytes.{active_element, active_functions, ElementModeFits, ElementsFit, element_mode_bytes, elements_bytes, is_short};
 ghost use Rattle.wasm_sections.specs.SectionKinds.{element_section};
 ghost use Rattle.wasm_sections.specs.declared.elements.ElementMode.TheVariants as modes;
 ghost use Rattle.wasm_sections.specs.declared.elements.Elements.TheVariants as held;
@@ -125,7 +125,7 @@ fn number_of_active(segment: &ActiveElement<'_>) -> u32
     ensures { result ≡ element_number (active_element segment.now) }
 {
     match segment.elements {
-        Elements::Functions(_) => if segment.table_index == 0 { 0 } else { 2 },
+        Elements::Functions(_) => number_of_functions(segment.table_index),
         Elements::Expressions(ty, _) => {
             if segment.table_index == 0 && is_funcref(*ty) {
                 4
@@ -134,6 +134,14 @@ fn number_of_active(segment: &ActiveElement<'_>) -> u32
             }
         }
     }
+}
+
+/// Returns the number of the minimal form of an active segment of function indices.
+#[inline(always)]
+fn number_of_functions(table_index: u32) -> u32
+    ensures { result ≡ functions_number (modes.Active table_index []) }
+{
+    if table_index == 0 { 0 } else { 2 }
 }
 
 /// Reads the element kind 0x00 (functions) and a list of function indices.
@@ -496,6 +504,25 @@ fn append_expressions<A: Allocator>(
     append_each_expression(expressions, sink)
 }
 
+/// Appends function indices, after their kind unless the form is short. On error a part of them may remain.
+fn append_functions<A: Allocator>(
+    short: bool,
+    functions: &[u32],
+    sink: &mut Vec<u8, A>,
+) -> Result<(), EncodeError>
+    ensures ok { OnOk result (sink.new.items ≡ sink.old.items ++ elements_bytes short (held.Functions functions.now)) }
+    ensures can { OnOk result (AreCounted (held.Functions functions.now)) }
+    ensures fits { OnOk result (ElementsFit short (held.Functions functions.now)) }
+    ensures refused { IfErr result (IsRefusal (λ fs. AreCounted (held.Functions fs)) OnlyTooLong functions.now) }
+    ensures kept { take (length sink.old.items) sink.new.items ≡ sink.old.items }
+{
+    if short {
+        encode_list(functions, sink)
+    } else {
+        encode_list_after(0x00, functions, sink)
+    }
+}
+
 /// Appends the elements of a segment, after their kind or type unless the form is short. On error a part of them may
 /// remain.
 fn append_elements<A: Allocator>(
@@ -506,13 +533,7 @@ fn append_elements<A: Allocator>(
     ensures { Appends (elements_bytes short elements.now) (AreCounted elements.now) (AreClosed elements.now → ElementsFit short elements.now) sink.old.items sink.new.items result }
 {
     match elements {
-        Elements::Functions(functions) => {
-            if short {
-                encode_list(functions.as_slice(), sink)
-            } else {
-                encode_list_after(0x00, functions.as_slice(), sink)
-            }
-        }
+        Elements::Functions(functions) => append_functions(short, functions.as_slice(), sink),
         Elements::Expressions(ty, expressions) => {
             if short {
                 return encode_expressions(expressions.as_slice(), sink);
@@ -593,6 +614,50 @@ fn append_active<A: Allocator>(
     append_elements(is_short(form), segment.elements, sink)
 }
 
+/// An active element segment that borrows its offset and function indices, so that adding it needs no list.
+#[derive(Drop)]
+struct ActiveFunctions<'a> {
+    table_index: u32,
+    offset: &'a [Call],
+    functions: &'a [u32],
+}
+
+impl Encode for ActiveFunctions<'_> {
+    ghost bytes = { λ segment. element_segment.bytes (active_functions segment) };
+
+    ghost IsWritten = { λ segment. IsClosedElement (active_functions segment) →
+        IsMinimal element_segment.Encodes element_segment.bytes (active_functions segment) };
+
+    ghost CanEncode = { λ segment. IsCountedElement (active_functions segment) };
+
+    ghost refuses = { OnlyTooLong };
+
+    #[inline(always)]
+    fn encode<A: Allocator>(&self, sink: &mut Vec<u8, A>) -> Result<(), EncodeError> {
+        let start = sink.len();
+        let result = append_active_functions(self, sink);
+        keep_or_undo(sink, start, result)
+    }
+}
+
+/// Appends an active element segment of function indices. On error a part of it may remain.
+#[inline(always)]
+fn append_active_functions<A: Allocator>(
+    segment: &ActiveFunctions<'_>,
+    sink: &mut Vec<u8, A>,
+) -> Result<(), EncodeError>
+    ensures ok { OnOk result (sink.new.items ≡ sink.old.items ++ element_segment.bytes (active_functions segment.now)) }
+    ensures can { OnOk result (IsCountedElement (active_functions segment.now)) }
+    ensures written { OnOk result (IsClosedElement (active_functions segment.now) →
+        IsMinimal element_segment.Encodes element_segment.bytes (active_functions segment.now)) }
+    ensures refused { IfErr result (IsRefusal (λ e. IsCountedElement (active_functions e)) OnlyTooLong segment.now) }
+    ensures kept { take (length sink.old.items) sink.new.items ≡ sink.old.items }
+{
+    let form = number_of_functions(segment.table_index);
+    append_active_mode(form, segment.table_index, segment.offset, sink)?;
+    append_functions(is_short(form), segment.functions, sink)
+}
+
 /// An element section (Core 3.0, Element Section).
 ///
 /// # Examples
@@ -649,6 +714,25 @@ impl ListSection<Element> {
             table_index,
             offset: calls,
             elements: &elements,
+        })
+    }
+
+    /// Adds an active segment of function indices, as [`active`](ListSection::active) does for
+    /// [`Elements::functions`], without allocating a list for them.
+    #[inline(always)]
+    pub fn active_functions(
+        &mut self,
+        table_index: u32,
+        offset: ConstExpr,
+        functions: &[u32],
+    ) -> Result<(), EncodeError>
+        ensures adds { AddsSegment (modes.Active table_index offset) (held.Functions functions.now) self.old self.new result }
+    {
+        let calls = offset.as_slice();
+        self.items.add(&ActiveFunctions {
+            table_index,
+            offset: calls,
+            functions,
         })
     }
 

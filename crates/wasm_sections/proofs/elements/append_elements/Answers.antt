@@ -1,25 +1,13 @@
 use Rattle.std.proofs.Common.{rules}
-use Rattle.wasm_sections.proofs.ElementLaws.{functions_fit, expressions_fit, type_fits, not_both}
+use Rattle.wasm_sections.proofs.ElementLaws.{expressions_fit, type_fits, not_both}
 use Rattle.wasm_codec.proofs.AppendLaws.{appends_after, appends_as, appends_or_not, where_both_ok}
 use Rattle.wasm_types.specs.formats.Types.{ref_type}
 use Rattle.wasm_sections.proofs.elements.append_elements.Goals as goal
 
 pub returns-then-short : goal.returns-then-short
 returns-then-short g c =
-    let call = c.encode_list.ensures in
-    let fits = where_both_ok c.encode_list.result (λ can. functions_fit c.args.short c.args.elements.now c.in-Functions.functions c.as_slice.result.now c.in-Functions.is c.as_slice.ensures.value can.0) call.can call.written in
-    appends_or_not (search rules) (search rules) fits (search rules) call.err
-
-pub returns-else-short : goal.returns-else-short
-returns-else-short g c =
-    let call = c.encode_list_after.ensures in
-    let fits = where_both_ok c.encode_list_after.result (λ can. functions_fit c.args.short c.args.elements.now c.in-Functions.functions c.as_slice-else-short.result.now c.in-Functions.is c.as_slice-else-short.ensures.value can.0) call.can call.written in
-    appends_or_not (search rules) (search rules) fits (search rules) call.err
-
-pub returns-then-short-2 : goal.returns-then-short-2
-returns-then-short-2 g c =
     let call = c.encode_expressions.ensures in
-    let fits = where_both_ok c.encode_expressions.result (λ can. expressions_fit c.args.short c.args.elements.now c.in-Expressions.ty c.in-Expressions.expressions c.as_slice-then-short-2.result.now c.in-Expressions.is c.as_slice-then-short-2.ensures.value (λ no. absurd (not_both c.args.short c.if-short-2.true no)) can.0) call.can call.written in
+    let fits = where_both_ok c.encode_expressions.result (λ can. expressions_fit c.args.short c.args.elements.now c.in-Expressions.ty c.in-Expressions.expressions c.as_slice-then-short.result.now c.in-Expressions.is c.as_slice-then-short.ensures.value (λ no. absurd (not_both c.args.short c.if-short.true no)) can.0) call.can call.written in
     appends_or_not (search rules) (search rules) fits (search rules) call.err
 
 pub returns-in_ok-reserve-in-Expressions : goal.returns-in_ok-reserve-in-Expressions
