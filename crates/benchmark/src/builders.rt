@@ -4,9 +4,9 @@ use crate::mix::write_mix;
 use std::alloc::Global;
 use std::io::Write;
 use wasm_encoder::{
-    CodeSection, ConstExpr, CustomSection, DataSection, ElementSection, EncodeError,
-    EntityType, ExportKind, ExportSection, Function, GlobalSection, GlobalType, ImportSection,
-    Module, ModuleWriter, TypeSection, ValType, WriteError,
+    CodeSection, ConstExpr, CustomSection, DataSection, ElementSection, EncodeError, EntityType,
+    ExportKind, ExportSection, Function, GlobalSection, GlobalType, ImportSection, Module,
+    ModuleWriter, TypeSection, ValType, WriteError,
 };
 
 /// How often the mix stands in one function: about a thousand bytes.

@@ -717,8 +717,17 @@ impl ListSection<Element> {
         })
     }
 
-    /// Adds an active segment of function indices, as [`active`](ListSection::active) does for
-    /// [`Elements::functions`], without allocating a list for them.
+    /// Adds an active segment of these function indices, as [`active`](ListSection::active) with
+    /// [`Elements::functions`] does. Allocates no list for them.
+    ///
+    /// # Examples
+    ///
+    /// ```
+    /// # use wasm_encoder::{ConstExpr, ElementSection};
+    /// let mut elements = ElementSection::new(rt.alloc());
+    /// elements.active_functions(0, ConstExpr::i32_const(rt.alloc(), 0)?, &[5])?;
+    /// assert_eq!(rt; elements.as_slice(), b"\x00\x41\x00\x0b\x01\x05".as_slice());
+    /// ```
     #[inline(always)]
     pub fn active_functions(
         &mut self,
@@ -728,10 +737,10 @@ impl ListSection<Element> {
     ) -> Result<(), EncodeError>
         ensures adds { AddsSegment (modes.Active table_index offset) (held.Functions functions.now) self.old self.new result }
     {
-        let calls = offset.as_slice();
+        let instructions = offset.as_slice();
         self.items.add(&ActiveFunctions {
             table_index,
-            offset: calls,
+            offset: instructions,
             functions,
         })
     }
