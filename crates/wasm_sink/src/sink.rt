@@ -104,6 +104,9 @@ impl<'a, A: Allocator> InstructionSink<'a, A> {
 
     /// Appends the minimal encodings of `calls`, all of them or none.
     ///
+    /// It first asks for room for them, as [`with_room`](InstructionSink::with_room) does. If the list can't grow by so
+    /// much, each call asks for its own room.
+    ///
     /// Fails with `TooLong` if a list in a call has more than 4,294,967,295 items.
     #[tactic(auto, using(crate::proofs::ChainLaws::same_as_chain))]
     pub fn write_calls(self, calls: &[Call]) -> Result<InstructionSink<'a, A>, EncodeError>
@@ -111,6 +114,7 @@ impl<'a, A: Allocator> InstructionSink<'a, A> {
         ensures* unchanged { sem 𝓛 (IsUnchangedAtErr A.row A.Allocator self.entry result) }
     {
         let InstructionSink { bytes, .. } = self;
+        let _ = bytes.reserve(calls.len().saturating_mul(ROOM));
         append_calls(bytes, calls)?;
         Ok(InstructionSink { bytes, calls: 0 })
     }
