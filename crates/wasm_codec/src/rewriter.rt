@@ -16,8 +16,9 @@ use crate::encode::leb128::u32_len;
 use crate::encode::write_u32;
 use crate::reader::cursor::{Cursor, Fault};
 use crate::reader::malformed::{Construct, Malformed, Reason};
-use crate::rewriter::scan::kept_digits;
-pub use scan::{Scanned, begins_low, scan_s32, scan_s64, scan_short_u32, scan_u32, scan_u64};
+pub use scan::{
+    Scanned, begins_low, kept_digits, scan_s32, scan_s64, scan_short_u32, scan_u32, scan_u64,
+};
 use std::alloc::Global;
 use std::marker::Model;
 

@@ -1,6 +1,7 @@
 pub mod DrainLaws
 pub mod FormatLengths
 mod HeldLists
+mod PaddedLoads
 mod CallLaws
 pub mod InstructionLengths
 pub mod CallRanges

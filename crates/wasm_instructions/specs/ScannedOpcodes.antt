@@ -1,6 +1,8 @@
 -- The opcodes of one byte that are scanned with their operands, and opcodes that are scanned by themselves.
-use Rattle.std.specs.Prelude.{◌≡◌, ℕ, zero, suc, ◌+◌, ◌≤◌, true, List, [], ◌∷◌, drop, length, Option, Some}
-use Rattle.wasm_codec.specs.Places.{place}
+use Rattle.std.specs.Prelude.{◌≡◌, ℕ, zero, suc, ◌+◌, ◌<◌, ◌≤◌, true, List, [], ◌∷◌, drop, length, Option, Some}
+use Rattle.wasm_codec.specs.Places.{Place, place}
+use Rattle.wasm_codec.specs.Scanning.{Scans}
+use Rattle.wasm_codec.specs.declared.rewriter.scan.Scanned.{Scanned}
 use Rattle.wasm_codec.specs.formats.Combinators.{u32}
 use Rattle.wasm_instructions.specs.declared.table.opcode.Prefix.TheVariants as prefixes
 use Rattle.wasm_instructions.specs.declared.table.opcode.Kind.{Kind}
@@ -44,3 +46,13 @@ pub record IsKindAfter (prefix number : ℕ) (kind : Kind) : Type 0 where
   pub op : Opcode
   pub kind_is : opcode_kind op ≡ Some kind
   pub reads : (bytes more : List ℕ) → u32.at (place true bytes) ≡ Some (number, place true more) → opcode.at (place true (prefix ∷ bytes)) ≡ Some (op, place true more)
+
+-- The bytes begin with a padded u32 below 64, the alignment of a memory argument without the index of a memory.
+pub record IsPaddedAlignment (bytes : List ℕ) (s : Scanned) : Type 0 where
+  pub scans : Scans u32 bytes (Some s)
+  pub small : (n : ℕ) (after : Place) → u32.at (place true bytes) ≡ Some (n, after) → n < 64
+
+-- The bytes begin with an opcode of one byte whose operand is a memory argument, and then a padded alignment.
+pub record IsPaddedLoad (bytes : List ℕ) (s : Scanned) : Type 0 where
+  pub opcode : HasOpcode bytes kinds.Mem 1
+  pub alignment : IsPaddedAlignment (drop 1 bytes) s

@@ -5,12 +5,13 @@ ghost use Rattle.wasm_instructions.specs.formats.Instructions.{Instruction, Inst
 ghost use Rattle.wasm_codec.specs.Rewriter.{Rewrites};
 ghost use Rattle.wasm_codec.specs.Decoding.{Normalises, NormalisesInPlace, NormalisesSlice, RewritesAll};
 ghost use Rattle.wasm_codec.specs.formats.Bodies.{to_end};
+ghost use Rattle.wasm_codec.specs.formats.Combinators.{u64 as u64_format};
 
 mod operands;
 mod scan;
 
 use crate::normaliser::operands::rewrite_operands;
-use crate::normaliser::scan::{scan_call, scan_frequent_call, scan_rare_call};
+use crate::normaliser::scan::{scan_call, scan_frequent_call, scan_padded_load, scan_rare_call};
 use crate::reader::take_opcode;
 use crate::table::Call;
 use std::alloc::Global;
@@ -18,7 +19,7 @@ use wasm_codec::reader::cursor::Fault;
 use wasm_codec::reader::malformed::Malformed;
 use wasm_codec::reader::refusal::Refusal;
 use wasm_codec::reader::{ReadError, without_memory, without_reason};
-use wasm_codec::rewriter::{Part, Rewriter, Scanned};
+use wasm_codec::rewriter::{Part, Rewriter, Scanned, scan_u64};
 use wasm_lists::rewriting::{Joinable, Rewritable, rewrite_items_to_end};
 
 /// Returns the minimal encoding of a list of instructions (Core 3.0, Instructions).
@@ -100,19 +101,8 @@ impl Rewritable for Call {
     #[tactic(auto, using(crate::proofs::InstructionFormatLaws::instruction_laws))]
     fn is_lawful() {}
 
+    #[inline(never)]
     fn rewrite(rewriter: &mut Rewriter) -> Result<(), Fault> {
-        rewriter.are_bytes();
-        // With 16 bytes left, the compiler drops the later length checks.
-        if rewriter.len() >= 16 {
-            if let Some(scanned) = scan_call(rewriter.left()) {
-                rewriter.rewrite_scanned(scanned);
-                return Ok(());
-            }
-        }
-        if let Some(count) = scan_rare_call(rewriter.left()) {
-            rewriter.rewrite_scanned(Scanned::Minimal(count));
-            return Ok(());
-        }
         rewrite_located_call(rewriter)
     }
 }
@@ -127,6 +117,11 @@ impl Joinable for Call {
     fn scan_frequent(bytes: &[u8]) -> Option<usize> {
         scan_frequent_call(bytes)
     }
+
+    #[inline(always)]
+    fn scan_rare(bytes: &[u8]) -> Option<usize> {
+        scan_rare_call(bytes)
+    }
 }
 
 /// Rewrites an opcode and its operands.
@@ -134,12 +129,32 @@ impl Joinable for Call {
 fn rewrite_call(rewriter: &mut Rewriter) -> Result<(), Fault>
     ensures rewrites { Rewrites instruction rewriter.old rewriter.new result }
 {
+    rewriter.are_bytes();
+    if let Some(alignment) = scan_padded_load(rewriter.left()) {
+        rewriter.skip(1);
+        rewriter.rewrite_scanned(alignment);
+        return rewrite_offset(rewriter);
+    }
     let start = rewriter.to_end();
     let op = take_opcode(rewriter)?;
     let Some(kind) = op.kind() else {
         return Err(Fault::Malformed(Malformed::new(op.unknown(), start)));
     };
     rewrite_operands(rewriter, kind)
+}
+
+/// Rewrites the offset of a memory argument.
+#[inline(always)]
+fn rewrite_offset(rewriter: &mut Rewriter) -> Result<(), Fault>
+    ensures rewrites { Rewrites u64_format rewriter.old rewriter.new result }
+{
+    rewriter.are_bytes();
+    if let Some(scanned) = scan_u64(rewriter.left()) {
+        rewriter.rewrite_scanned(scanned);
+        return Ok(());
+    }
+    rewriter.u64()?;
+    Ok(())
 }
 
 /// Rewrites an opcode and its operands. A fault carries the place of the instruction.

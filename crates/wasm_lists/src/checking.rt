@@ -119,4 +119,9 @@ impl<T: Joinable> Joinable for MinimalOnly<T> {
             _ => None,
         }
     }
+
+    #[inline(always)]
+    fn scan_rare(bytes: &[u8]) -> Option<usize> {
+        T::scan_rare(bytes)
+    }
 }

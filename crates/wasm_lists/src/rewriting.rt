@@ -9,7 +9,7 @@ ghost use Rattle.wasm_codec.specs.formats.Combinators.{Format, items, u32 as u32
 ghost use Rattle.wasm_codec.specs.formats.Bodies.{sized, to_end};
 ghost use Rattle.wasm_codec.specs.Scanning.{BeginsShort, Scans, SkipsMinimal};
 ghost use Rattle.wasm_codec.specs.declared.rewriter.scan.Scanned.TheVariants.{Minimal};
-ghost use Rattle.wasm_codec.specs.Rewriter.{CountsPassed, IsNew, Rewrites, RewritesAll, RewritesList, StopsInItem};
+ghost use Rattle.wasm_codec.specs.Rewriter.{rewriting_after, CountsPassed, IsNew, Rewrites, RewritesAll, RewritesList, StopsInItem};
 
 mod numbers;
 
@@ -62,6 +62,15 @@ pub trait Joinable: Rewritable {
     /// Returns the length of the item that the bytes begin with, if it is of a frequent kind and minimally encoded. By
     /// default no kind is frequent.
     fn scan_frequent(bytes: &[u8]) -> Option<usize>
+        ensures scans { IfSome result (λ count. Scans Self.format bytes.now (Some (Minimal count))) }
+        ensures never { NeverScans → IsNone result }
+    {
+        None
+    }
+
+    /// Returns the length of the item that the bytes begin with, if it is minimally encoded and of a kind that `scan`
+    /// doesn't take. By default there is no such kind.
+    fn scan_rare(bytes: &[u8]) -> Option<usize>
         ensures scans { IfSome result (λ count. Scans Self.format bytes.now (Some (Minimal count))) }
         ensures never { NeverScans → IsNone result }
     {
@@ -220,6 +229,15 @@ pub fn rewrite_joined<T: Joinable>(rewriter: &mut Rewriter) -> Result<(), Stop>
         rewriter.skip(run);
         let left = rewriter.len();
         if left != 0 {
+            // Items that are scanned aren't counted, as those of a run aren't.
+            if rewrite_scanned_item::<T>(rewriter) {
+                continue;
+            }
+            let rare = rare_run::<T>(rewriter.left());
+            if rare > 0 {
+                rewriter.skip(rare);
+                continue;
+            }
             if let Err(fault) = T::rewrite(rewriter) {
                 return Err(Stop::new(fault, left, passed));
             }
@@ -227,6 +245,46 @@ pub fn rewrite_joined<T: Joinable>(rewriter: &mut Rewriter) -> Result<(), Stop>
         }
     }
     Ok(())
+}
+
+/// Rewrites the next item and returns `true`, if 16 bytes are left and the item is scanned. Otherwise leaves the rewriter
+/// as it is.
+#[inline(always)]
+#[tactic(auto, using(wasm_codec::proofs::Shortening::scanned_rewritten))]
+fn rewrite_scanned_item<T: Joinable>(rewriter: &mut Rewriter) -> bool
+    ensures rewrites { result ≡ true → rewriting_after T.format rewriter.old ≡ Some rewriter.new }
+    ensures none { result ≡ false → rewriter.new ≡ rewriter.old }
+    ensures never { T.NeverScans → result ≡ false }
+{
+    T::is_lawful();
+    rewriter.are_bytes();
+    // With 16 bytes left, the compiler drops the later length checks.
+    if rewriter.len() < 16 {
+        return false;
+    }
+    let Some(scanned) = T::scan(rewriter.left()) else {
+        return false;
+    };
+    rewriter.rewrite_scanned(scanned);
+    true
+}
+
+/// Returns the length of the run of rare, minimally encoded items that the bytes begin with.
+#[inline(never)]
+fn rare_run<T: Joinable>(bytes: &[u8]) -> usize
+    ensures begins { BeginsShort T.format bytes.now result }
+    ensures never { T.NeverScans → result ≡ 0 }
+{
+    T::is_lawful();
+    are_bytes(bytes);
+    let mut run = 0;
+    while run < bytes.len() {
+        let Some(count) = T::scan_rare(&bytes[run..bytes.len()]) else {
+            break;
+        };
+        run += count;
+    }
+    run
 }
 
 /// Returns the length of the run of scanned, minimally encoded items that the bytes begin with.

@@ -107,7 +107,22 @@ fn scan_digits(bytes: &[u8], signed: bool, most: usize, top: u8) -> Option<Scann
 
 /// Returns how many of the first `count` digits are needed if the digit after them is redundant.
 #[inline(always)]
-pub(crate) fn kept_digits(bytes: &[u8], signed: bool, count: usize) -> usize
+pub fn kept_digits(bytes: &[u8], signed: bool, count: usize) -> usize
+    requires some { 0 < count }
+    requires within { count ≤ length bytes.now }
+    ensures { KeepsDigits signed bytes.now count result }
+{
+    // The loop for unsigned numbers has one test.
+    if signed {
+        needed_digits(bytes, true, count)
+    } else {
+        needed_digits(bytes, false, count)
+    }
+}
+
+/// Returns what `kept_digits` does. The compiler knows the sign.
+#[inline(always)]
+fn needed_digits(bytes: &[u8], signed: bool, count: usize) -> usize
     requires some { 0 < count }
     requires within { count ≤ length bytes.now }
     ensures { KeepsDigits signed bytes.now count result }

@@ -6,6 +6,7 @@ ghost use Rattle.wasm_codec.specs.declared.rewriter.scan.Scanned.TheVariants.{Mi
 ghost use Rattle.wasm_codec.specs.formats.Combinators.{little_endian};
 ghost use Rattle.wasm_instructions.specs.formats.Instructions.{operands_format, instruction};
 ghost use Rattle.wasm_instructions.specs.formats.Operands.{block_type, mem_arg};
+ghost use Rattle.wasm_instructions.specs.ScannedOpcodes.{IsPaddedAlignment, IsPaddedLoad};
 
 mod opcodes;
 mod parts;
@@ -14,13 +15,15 @@ mod prefixed;
 use crate::normaliser::scan::opcodes::{SCANNED, scanned_kind};
 use crate::table::Kind;
 pub(crate) use prefixed::scan_rare_call;
-use wasm_codec::rewriter::{Scanned, scan_s32, scan_s64, scan_short_u32, scan_u32, scan_u64};
+use wasm_codec::rewriter::{
+    Scanned, kept_digits, scan_s32, scan_s64, scan_short_u32, scan_u32, scan_u64,
+};
 
 /// The opcode of `local.get`, the first one that `scan_frequent_call` takes.
-const FIRST_VARIABLE: u8 = 0x20;
+pub(crate) const FIRST_VARIABLE: u8 = 0x20;
 
 /// The opcode of `table.set`, the last one that `scan_frequent_call` takes.
-const LAST_VARIABLE: u8 = 0x26;
+pub(crate) const LAST_VARIABLE: u8 = 0x26;
 
 /// Scans the instruction that the bytes begin with. Returns `None` unless it is of a frequent kind.
 #[inline(always)]
@@ -115,4 +118,48 @@ fn scan_mem_arg(bytes: &[u8]) -> Option<Scanned>
     }
     let offset = scan_u64(&bytes[1..])?;
     Some(offset.behind_byte())
+}
+
+/// Scans the padded alignment after the opcode of a load or a store that the bytes begin with. Returns `None` unless its
+/// minimal encoding has one byte, and no memory index follows.
+#[inline(always)]
+pub(crate) fn scan_padded_load(bytes: &[u8]) -> Option<Scanned>
+    ensures { IfSome result (IsPaddedLoad bytes.now) }
+{
+    if bytes.len() < 2 {
+        return None;
+    }
+    match scanned_kind(&SCANNED, bytes[0]) {
+        Some(Kind::Mem) => scan_padded_alignment(&bytes[1..]),
+        _ => None,
+    }
+}
+
+/// Scans the padded number that the bytes begin with. Returns `None` unless its minimal encoding is one byte below 64.
+#[inline(always)]
+fn scan_padded_alignment(bytes: &[u8]) -> Option<Scanned>
+    ensures { IfSome result (IsPaddedAlignment bytes.now) }
+{
+    if bytes.len() == 0 {
+        return None;
+    }
+    if bytes[0] < 128 || bytes[0] >= 192 {
+        return None;
+    }
+    let scanned = scan_u32(bytes)?;
+    let Scanned::Padded {
+        signed,
+        start,
+        more,
+    } = scanned
+    else {
+        return None;
+    };
+    if start != 0 {
+        return None;
+    }
+    if kept_digits(bytes, signed, more) != 1 {
+        return None;
+    }
+    Some(scanned)
 }

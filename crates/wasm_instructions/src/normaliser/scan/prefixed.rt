@@ -10,15 +10,23 @@ use crate::normaliser::scan::parts::{
     scan_any_block_type, scan_any_mem_arg, scan_byte, scan_castop, scan_clauses, scan_index,
     scan_lanes, scan_one_type, scan_ordering, scan_vector,
 };
+use crate::normaliser::scan::{FIRST_VARIABLE, LAST_VARIABLE};
 use crate::table::{Kind, Opcode};
 use wasm_types::types::scan_heap_type;
 
 /// Returns the length in bytes of the instruction that the bytes begin with. Returns `None` unless it is minimally
 /// encoded, and its operands are of a kind that is scanned.
-#[inline(never)]
+#[inline(always)]
 pub(crate) fn scan_rare_call(bytes: &[u8]) -> Option<usize>
     ensures { IfSome result (λ count. Scans instruction bytes.now (Some (Minimal count))) }
 {
+    if bytes.len() == 0 {
+        return None;
+    }
+    // A run of rare instructions ends at one of variables, which the loop for frequent ones takes faster.
+    if bytes[0] >= FIRST_VARIABLE && bytes[0] <= LAST_VARIABLE {
+        return None;
+    }
     let (kind, start) = scan_opcode(bytes)?;
     let operands = scan_rare_operands(kind, &bytes[start..])?;
     Some(start + operands)
