@@ -127,7 +127,10 @@ fn needed_digits(bytes: &[u8], signed: bool, count: usize) -> usize
     requires within { count ≤ length bytes.now }
     ensures { KeepsDigits signed bytes.now count result }
 {
-    let mut kept = count;
+    if count <= 1 || !repeats(signed, bytes[count - 2], bytes[count - 1] % 128) {
+        return count;
+    }
+    let mut kept = count - 1;
     while kept > 1 && repeats(signed, bytes[kept - 2], bytes[kept - 1] % 128) {
         kept -= 1;
     }
