@@ -1,4 +1,4 @@
--- Refusals as numbers: what the fields of a `FlatRefusal` stand for.
+-- Refusals as numbers: the meaning of the fields of a `FlatRefusal`.
 use Rattle.std.specs.Prelude.{ℕ, ℤ, pos, negsuc, ◌^◌, ◌<◌, ◌-◌, ⊤, min, Option, Some, None, option_map}
 use Rattle.wasm_codec.specs.declared.reader.malformed.Construct.{Construct}
 use Rattle.wasm_codec.specs.declared.reader.malformed.Construct.TheVariants as constructs
@@ -91,7 +91,7 @@ NamesPart (reasons.InvalidByte part byte) = ⊤
 NamesPart (reasons.InvalidNumber part number) = ⊤
 NamesPart reason = ⊥
 
--- The reason says by numbers what stands at its offset.
+-- The reason's numbers describe the bytes at its offset.
 abbrev pub NamesBytes : Reason → Type 0
 NamesBytes (reasons.UnknownOpcode number) = ⊤
 NamesBytes (reasons.UnknownPrefixedOpcode prefix number) = ⊤

@@ -1,7 +1,7 @@
 -- A text in a buffer, cut to the buffer's length and ended by NUL.
 use Rattle.std.specs.Prelude.{◌≡◌, ℕ, ◌<◌, ◌≤◌, ◌-◌, List, ◌++◌, length, take, drop, set}
 
--- The first `count` bytes of the text, then a NUL, stand at the start of the buffer. Its other bytes are unchanged.
+-- The buffer with the first `count` bytes of the text, then a NUL, at its start. Its other bytes are unchanged.
 abbrev pub ends_at : ℕ → List ℕ → List ℕ → List ℕ
 ends_at count text old = set (take count text ++ drop count old) count 0
 

@@ -1,4 +1,4 @@
--- What the calls promise, whatever they normalise or check.
+-- The promises of the calls, whatever they normalise or check.
 use Rattle.std.specs.Prelude.{◌≡◌, ◌≢◌, ◌≤◌, ℕ, List, length, take}
 use Rattle.wasm_codec.specs.formats.Grammar.{Grammar}
 use Rattle.wasm_codec.specs.formats.Combinators.{Format}

@@ -1,4 +1,4 @@
--- What a C call says of a module that it refuses.
+-- The report of a C call on a module that it refuses.
 use Rattle.std.specs.Prelude.{◌≡◌, ℕ, Bool, List, length}
 use Rattle.wasm_codec.specs.declared.reader.DecodeError.TheVariants as decode_errors
 use Rattle.wasm_codec.specs.declared.reader.refusal.Refusal.{Refusal}

@@ -1,4 +1,4 @@
--- What `nosgrivel_strip` promises.
+-- The promises of `nosgrivel_strip`.
 use Rattle.std.specs.Prelude.{◌≡◌, ◌≢◌, ◌<◌, ◌⊎◌, ℕ, false, List, [], ◌∷◌, ◌++◌, length, get_or}
 use Rattle.std.specs.Str.{IsUtf8}
 use Rattle.wasm_codec.specs.Outcomes.{IsLongestPrefix, IsNormalForm, EncodesSome}

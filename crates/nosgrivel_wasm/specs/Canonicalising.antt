@@ -1,4 +1,4 @@
--- What a host learns of a module that was rewritten in place.
+-- The results that a host gets for a module that was rewritten in place.
 use Rattle.std.specs.Prelude.{◌≡◌, ◌≢◌, ◌≤◌, ◌⊎◌, ℕ, List, length, take, Option, Some, None, Result, Ok, Err}
 use Rattle.wasm_codec.specs.declared.reader.refusal.Refusal.{Refusal}
 use Rattle.wasm_codec.specs.Outcomes.{EncodesSome, IsLongestPrefix, IsNormalForm, place_alone}
@@ -40,7 +40,7 @@ pub record Canonicalises (old new : List ℕ) (count : ℕ) (told : FlatRefusal)
   -- No other status is returned.
   pub statuses : (status ≡ NORMAL) ⊎ (status ≡ REFUSED) ⊎ (status ≡ NOT_NORMAL)
 
--- What a canonical module, one with a first part that isn't minimal, and a malformed one tell.
+-- The results for a canonical module, or for one whose first part that isn't minimal is at this refusal.
 abbrev pub IsCanonicalised : ℕ → Option Refusal → ℕ → FlatRefusal → ℕ → Type 0
 IsCanonicalised len None count told status = (status ≡ NORMAL) × (count ≡ len) × (told ≡ flat_accepted len)
 IsCanonicalised len (Some refusal) count told status = (status ≡ NOT_NORMAL) × (count ≡ len) × (told ≡ flat_refusal refusal)

@@ -13,12 +13,12 @@ abbrev pub len_of : Result CheckedInPlace DecodeError → Result ℕ ReadError
 len_of (Ok checked) = Ok checked.len
 len_of (Err e) = Err (read_error_of e)
 
--- What a check of the module would have returned.
+-- The result that a check of the module would have returned.
 abbrev pub verdict_of : Option Refusal → Result (Unit {0}) ReadError
 verdict_of None = Ok tt
 verdict_of (Some refusal) = Err (errors.Refused refusal.at)
 
--- What it would have returned for a module of this length whose first section that isn't minimally encoded is this one.
+-- The result that it would have returned for a module of this length, by its first section that isn't minimal, if any.
 abbrev pub verdict_at : ℕ → Option LongerItem → Result (Unit {0}) ReadError
 verdict_at len None = Ok tt
 verdict_at len (Some section) = Err (errors.Refused (len - section.left))

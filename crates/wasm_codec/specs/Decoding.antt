@@ -13,7 +13,7 @@ TakesMinimal {V} F Minimal = (bytes : List ℕ) (value : V) → Minimal bytes va
 
 -- ---- what an implementation of a call owes
 
--- What a call returns that reads a value from all of the bytes.
+-- The result of a call that reads a value from all of the bytes.
 pub record ReadsAll {X V : Type 0} (view : X → V) (G : Grammar V) (IsPrefix : List ℕ → Type 0) (bytes : List ℕ) (result : Result X ReadError) : Type 0 where
   -- The bytes encode the value that it returns.
   pub given : IfOk result (λ x. G bytes (view x))
@@ -22,7 +22,7 @@ pub record ReadsAll {X V : Type 0} (view : X → V) (G : Grammar V) (IsPrefix : 
   -- It refuses only bytes that encode no value.
   pub unencoded : IfRefused result (λ _. (value : V) → G bytes value → ⊥)
 
--- What a call returns that checks whether all of the bytes are in a minimal encoding.
+-- The result of a call that checks whether all of the bytes are in a minimal encoding.
 pub record ChecksAll {V : Type 0} (Minimal : Grammar V) (IsPrefix : List ℕ → Type 0) (bytes : List ℕ) (result : Result (Unit {0}) ReadError) : Type 0 where
   -- It accepts only bytes that are the minimal encoding of a value.
   pub given : IfOk result (λ _. EncodesSome Minimal bytes)
@@ -31,7 +31,7 @@ pub record ChecksAll {V : Type 0} (Minimal : Grammar V) (IsPrefix : List ℕ →
   -- It refuses only bytes that are no minimal encoding.
   pub unencoded : IfRefused result (λ _. (value : V) → Minimal bytes value → ⊥)
 
--- What a call returns that rewrites all of the bytes to their minimal encoding. `encoding` is where its result has it.
+-- The result of a call that rewrites all of the bytes to their minimal encoding. `encoding` gets it from the result.
 pub record RewritesTo {X V : Type 0} (F : Format V) (IsPrefix : List ℕ → Type 0) (bytes : List ℕ) (encoding : X → List ℕ) (result : Result X ReadError) : Type 0 where
   -- It returns the minimal encoding of a value that the bytes encode.
   pub given : IfOk result (λ x. IsNormalForm F.Encodes F.bytes bytes (encoding x))

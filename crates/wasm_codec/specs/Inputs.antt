@@ -1,5 +1,5 @@
--- What a production takes from its input: from a cursor, which reads, or from a rewriter, which also writes minimal
--- encodings in place. Both are seen as rewritings: a cursor writes nothing.
+-- The values that a production takes from its input. A cursor reads; a rewriter also writes minimal encodings in place.
+-- Contracts see both as rewritings: a cursor writes nothing.
 use Rattle.std.specs.Prelude.{◌≡◌, ℕ, Bool, true, false, List, [], ◌++◌, Option, Some, None, Result, Ok, Err}
 use Rattle.wasm_codec.specs.declared.reader.cursor.Fault.{Fault}
 use Rattle.wasm_codec.specs.declared.reader.cursor.Fault.TheVariants as faults
@@ -39,7 +39,7 @@ Takes writes F old new (Err faults.Memory) = ⊥
 
 -- ---- values that only a reading input returns
 
--- What is written and left after a value, or none.
+-- The rewriting after the value at its place, or none if the format reads no value there.
 abbrev pub passed_at : {V : Type 0} → Bool → Format V → Rewriting → Option Rewriting
 passed_at writes F r = F.at r.place >>= λ x. Some (rewriting (r.done ++ wrote writes (F.bytes x.0)) x.1 r.rest)
 
@@ -56,12 +56,12 @@ Passes writes view F old new (Err faults.Memory) = IfWrites writes ⊥
 
 -- ---- what was written
 
--- What is written, after this number of bytes was taken out at a mark.
+-- The rewriting after it takes out this number of bytes at a mark. A cursor only notes that its bytes aren't minimal.
 abbrev pub left_out : Bool → ℕ → ℕ → Rewriting → Rewriting
 left_out true mark count r = without mark count r
 left_out false mark count r = rewriting r.done (place false r.place.left) r.rest
 
--- What is written, with another byte at a mark.
+-- The rewriting with another byte at a mark. A cursor stays as it is.
 abbrev pub overwritten : Bool → ℕ → ℕ → Rewriting → Rewriting
 overwritten true mark byte r = with_byte mark byte r
 overwritten false mark byte r = r

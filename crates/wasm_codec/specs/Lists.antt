@@ -71,8 +71,8 @@ pub record HasItemsBefore {V : Type 0} (Count : Grammar ℕ) (G : Grammar V) (by
   pub encoded : Joined G back items
   pub index_is : length items ≡ index
 
--- If the refusal names an item, exactly as many items stand before it, fewer than the count. If it names none, it is at
--- the count, or after the whole list.
+-- If the refusal names an item, its index is the number of items before it, and less than the count. If it names none,
+-- it is at the count, or after the whole list.
 abbrev pub IsCountedAt : {V : Type 0} → Grammar ℕ → Grammar V → List ℕ → ℕ → Option ℕ → Type 0
 IsCountedAt Count G bytes at (Some index) = (count : ℕ) × (index < count) × HasItemsBefore Count G bytes count index at
 IsCountedAt Count G bytes at None = (at ≡ 0) ⊎ ((count : ℕ) × HasItemsBefore Count G bytes count count at)
@@ -81,7 +81,7 @@ IsCountedAt Count G bytes at None = (at ≡ 0) ⊎ ((count : ℕ) × HasItemsBef
 abbrev pub CountsItems : {V : Type 0} → Bool → Format V → List ℕ → Refusal → Type 0
 CountsItems strict F bytes refusal = IsCountedAt (minimal_if strict u32).Encodes (minimal_if strict F).Encodes bytes refusal.at refusal.item
 
--- The same of the fault of a call that reads a list; if it reads the list, all items stand before the bytes left.
+-- The same of the fault of a call that reads a list. If the call succeeds, it has taken no bytes, or the whole list.
 abbrev pub CountsRead : {X V : Type 0} → Bool → Format V → List ℕ → List ℕ → Result X Fault → Type 0
 CountsRead strict F old new (Ok items) = IsCountedAt (minimal_if strict u32).Encodes (minimal_if strict F).Encodes old (length old - length new) None
 CountsRead strict F old new (Err (faults.Malformed m)) = IsCountedAt (minimal_if strict u32).Encodes (minimal_if strict F).Encodes old (length old - length new) m.item

@@ -64,7 +64,7 @@ pub record FindsAt {V : Type 0} (G : Grammar V) (read : PlainReader V) (bytes : 
 
 -- ---- the values that items stand for
 
--- A list stands for what its items stand for.
+-- The view of a list is the list of its items' views.
 pub record ViewsEach {X V : Type 0} (view : X → V) (views : List X → List V) : Type 0 where
   pub none : views [] ≡ []
   pub more : (xs : List X) (x : X) → views (xs ++ x ∷ []) ≡ views xs ++ view x ∷ []

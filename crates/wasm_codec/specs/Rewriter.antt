@@ -91,7 +91,7 @@ without mark count r = rewriting (take mark r.done ++ drop (mark + count) r.done
 abbrev pub with_byte : ℕ → ℕ → Rewriting → Rewriting
 with_byte mark byte r = rewriting (set r.done mark byte) r.place r.rest
 
--- The rewriting whose end comes after this number of bytes.
+-- The rewriting whose place ends after this number of bytes.
 abbrev pub limited : ℕ → Rewriting → Rewriting
 limited size r = rewriting r.done (place r.place.minimal (take size r.place.left)) (rest_of (drop size r.place.left ++ r.rest.bytes) r.rest.name)
 
@@ -159,7 +159,7 @@ pub record StopsBehind {V : Type 0} (F : Format V) (bytes : List ℕ) (stop : St
   pub some : IsMalformed stop.fault → 0 < stop.left
   pub within : IsMalformed stop.fault → stop.left ≤ length bytes
 
--- If an item is malformed, this number of items stands before it.
+-- If an item is malformed, `passed` counts the items before it.
 abbrev pub CountsPassed : {V : Type 0} → Format V → List ℕ → Stop → Type 0
 CountsPassed F bytes stop = IsMalformed stop.fault → HasJoinedBefore F.Encodes bytes stop.passed (length bytes - stop.left)
 

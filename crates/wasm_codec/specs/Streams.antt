@@ -1,4 +1,4 @@
--- What a writer holds once bytes were written.
+-- The contents of a writer after a call that writes bytes.
 use Rattle.std.specs.Prelude.{◌≡◌, ◌<◌, ◌++◌, ℕ, List, length, Option, Result, OnOk, OnErr}
 use Rattle.std.specs.Io.KnownBytes.{Appends}
 

@@ -11,6 +11,6 @@ use Rattle.wasm_sections.specs.ListSections.{Adds, GainsItem, StandsForItems}
 abbrev pub AddsNamed : {V : Type 0} → Format V → ℕ → EncodedItems → V → EncodedItems → Result (Unit {0}) EncodeError → Type 0
 AddsNamed F len old value new = Adds (GainsItem F) old value new (IsMemoryOrTooLong (IsFull old ⊎ IsUncounted len))
 
--- The new list is the old one and one more value, which is made of the values that the inner list stands for.
+-- The new list has one more value than the old one: `make` of the values that the inner list stands for.
 abbrev pub GainsWith : {V W : Type 0} → Format V → Format W → (List V → W) → EncodedItems → EncodedItems → EncodedItems → Type 0
 GainsWith {V} F G make old inner new = (values : List V) → StandsForItems F inner values → GainsItem G old (make values) new

@@ -13,7 +13,7 @@ use Rattle.wasm_custom_sections.specs.declared.names.NameSubsection.TheVariants 
 abbrev pub mapped_naming : (ℕ → ℕ) → Naming → Naming
 mapped_naming new naming = record { index = new naming.index; name = naming.name }
 
--- The names inside an item with the item's new index. What they name has no index in the module.
+-- The names inside an item with the item's new index. They name things that have no index in the module.
 abbrev pub mapped_indirect_naming : (ℕ → ℕ) → IndirectNaming → IndirectNaming
 mapped_indirect_naming new item = record { index = new item.index; names = item.names }
 

@@ -68,7 +68,7 @@ pub record HasMinimalContents (sections : List SectionParts) (bytes : List ℕ) 
 abbrev pub MinimisesContents : List ℕ → List ℕ → Type 0
 MinimisesContents bytes result = (sections : List SectionParts) → raw_module.Encodes bytes sections → HasMinimalContents sections result (length bytes)
 
--- What a call returns that takes a module to minimal contents.
+-- The result of a call that rewrites a module to the one with minimal contents.
 pub record RewritesContents (bytes : List ℕ) (result : Result (Vec ℕ) ReadError) : Type 0 where
   -- The bytes encode sections, and the result is their module with minimal contents.
   pub given : IfOk result (λ minimal. (sections : List SectionParts) × raw_module.Encodes bytes sections × HasMinimalContents sections minimal.items (length bytes))
@@ -113,7 +113,7 @@ MinimisesNext old new (Err faults.Memory) = Unit {0}
 
 -- ---- all sections
 
--- The first sections of the module were written, each minimised. What is written and left is at most so many bytes.
+-- The first sections of the module were written, each minimised. The bytes written and left are at most `most`.
 pub record Minimising (most : ℕ) (sections : List SectionParts) (here : Rewriting) : Type 0 where
   pub before : List SectionParts
   pub rest : List SectionParts

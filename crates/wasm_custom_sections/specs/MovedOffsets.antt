@@ -35,8 +35,8 @@ pub record BeginsAt (body : List ℕ) (number offset : ℕ) : Type 0 where
 abbrev pub NoInstructionAt : List ℕ → ℕ → Type 0
 NoInstructionAt body offset = (number : ℕ) → BeginsAt body number offset → ⊥
 
--- An instruction begins at the first offset of this body. What precedes it has a minimal encoding whose length is the
--- second offset, so the same instruction begins there in the body's minimal encoding.
+-- An instruction begins at the offset `old` of this body. The minimal encoding of the locals and instructions before it
+-- has `new` bytes, so the same instruction begins there in the body's minimal encoding.
 pub record MovesOffset (body : List ℕ) (old new : ℕ) : Type 0 where
   pub number : ℕ
   pub stood : BeginsAt body number old

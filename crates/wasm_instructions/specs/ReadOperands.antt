@@ -1,4 +1,4 @@
--- What a reader of operands promises.
+-- The promises of a reader of operands.
 use Rattle.std.specs.Prelude.{◌≡◌, Result, IfOk}
 use Rattle.wasm_codec.specs.Places.{Place, Reads}
 use Rattle.wasm_codec.specs.declared.reader.cursor.Fault.{Fault}

@@ -1,4 +1,4 @@
--- What an iterator over items gives, call by call and in all.
+-- The items that an iterator gives, call by call and in all.
 use Rattle.std.specs.Prelude.{◌≡◌, ℕ, zero, suc, ◌+◌, ◌-◌, ◌<◌, ◌≤◌, ◌⊎◌, Bool, true, false, List, [], length, map, Option, Some, None, Result, Ok, Err, if◌then◌else◌}
 use Rattle.std.specs.Iterator.{Yields, YieldsThen}
 use Rattle.wasm_codec.specs.Lists.{IsListPrefixMinimalIf, ListMinimalIf}
@@ -10,7 +10,7 @@ use Rattle.wasm_codec.specs.declared.reader.ReadError.TheVariants as errors
 use Rattle.wasm_codec.specs.formats.Combinators.{Format, minimal_if, u32}
 use Rattle.wasm_codec.specs.formats.Grammar.{Grammar, Joined}
 
--- Where an iterator over items is.
+-- The state of an iterator over items.
 pub record Reading : Type 0 where
   -- the offset of the next item
   pub offset : ℕ
@@ -44,7 +44,7 @@ abbrev pub OneLess : Option ℕ → Option ℕ → Type 0
 OneLess None after = after ≡ None
 OneLess (Some n) after = (m : ℕ) × (n ≡ suc m) × (after ≡ Some m)
 
--- The next item was given, which stands for this value.
+-- The iterator gave the next item, which stands for this value.
 pub record GivesItem {V : Type 0} (G : Grammar V) (old : Reading) (offset : ℕ) (v : V) (new : Reading) : Type 0 where
   pub begins : BeginsWith G old.left v new.left
   pub offset_is : offset ≡ old.offset
@@ -81,7 +81,7 @@ pub record GivesNone (old new : Reading) : Type 0 where
   pub stays : new ≡ old
   pub done : (old.ended ≡ true) ⊎ ((old.left ≡ []) × NoneDue old.due)
 
--- What a call gives.
+-- A call gives nothing, an item or an error.
 abbrev pub GivesNext : {X V : Type 0} → (X → V) → Format V → Reading → Option (Result (ℕ × X) DecodeError) → Reading → Type 0
 GivesNext view F old None new = GivesNone old new
 GivesNext view F old (Some (Ok item)) new = GivesItem (minimal_if old.strict F).Encodes old item.0 (view item.1) new
@@ -111,7 +111,7 @@ pub record RefusesItems {V : Type 0} (G : Grammar V) (start : ℕ) (bytes : List
   pub longest : IsLongestPrefix (EncodesSome (Joined G)) bytes (at - start)
   pub none : (values : List V) → Joined G bytes values → ⊥
 
--- What is given tells which values the bytes encode one after another, however many calls are made.
+-- The items given tell which values the bytes encode one after another, however many calls the caller makes.
 pub record GivesToEnd {X V : Type 0} (view : X → V) (F : Format V) (bytes : List ℕ) (start : Reading) : Type 0 where
   -- The items given so far encode the bytes before the next one.
   pub so_far : (items : List (ℕ × X)) (here : Reading) → GaveItems view F start items here
@@ -134,7 +134,7 @@ pub record EncodesNoList {V : Type 0} (strict : Bool) (F : Format V) (start : �
   pub longest : IsLongestPrefix (IsListPrefixMinimalIf strict F) bytes (at - start)
   pub none : (values : List V) → ListMinimalIf strict F bytes values → ⊥
 
--- What is given tells which list the bytes encode, which begin at an offset, however many calls are made.
+-- The items given tell which list the bytes encode, however many calls the caller makes. The bytes begin at `offset`.
 pub record GivesList {X V : Type 0} (view : X → V) (F : Format V) (offset : ℕ) (bytes : List ℕ) (start : Reading) : Type 0 where
   -- The number of items.
   pub count : ℕ

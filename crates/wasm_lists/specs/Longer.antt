@@ -29,7 +29,7 @@ abbrev pub TellsFirst : {V : Type 0} → Format V → List ℕ → Option Longer
 TellsFirst F bytes None = EncodesSome (Joined (minimal_only F).Encodes) bytes
 TellsFirst F bytes (Some item) = StopsAt (minimal_only F) bytes item.left
 
--- This number of minimally encoded items stands before the item.
+-- `passed` counts the minimally encoded items before the item.
 abbrev pub CountsFirst : {V : Type 0} → Format V → List ℕ → LongerItem → Type 0
 CountsFirst F bytes item = HasJoinedBefore (minimal_only F).Encodes bytes item.passed (length bytes - item.left)
 

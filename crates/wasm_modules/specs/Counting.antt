@@ -16,7 +16,7 @@ abbrev pub as_done : {X : Type 0} → Result X Fault → Result (Unit {0}) Fault
 as_done (Ok x) = Ok tt
 as_done (Err fault) = Err fault
 
--- Fewer bytes were written than read exactly if the item is told to be longer.
+-- The Bool is true if and only if fewer bytes were written than read.
 abbrev pub TellsLonger : Rewriting → Rewriting → Bool → Type 0
 TellsLonger old new true = length new.done - length old.done < length old.place.left - length new.place.left
 TellsLonger old new false = length old.place.left - length new.place.left ≤ length new.done - length old.done
@@ -53,7 +53,7 @@ pub record CountsSection (left : List ℕ) (counts : Option ItemCounts) : Type 0
   pub parts : left ≡ id ∷ back
   pub told : OfKind (λ V F C. IsSomeAnd counts (CountsSized F back)) (λ V F C. IsNone counts) ⊥ id
 
--- A section stands before these last bytes. Its minimal encoding has this length, and its items are counted so.
+-- A section precedes these last bytes. Its minimal encoding has `len` bytes, and `counts` counts its items.
 pub record IsCountedSection (left after : List ℕ) (len : ℕ) (counts : Option ItemCounts) : Type 0 where
   pub bytes : List ℕ
   pub section : ModuleSectionParts

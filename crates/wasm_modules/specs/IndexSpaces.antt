@@ -1,4 +1,4 @@
--- Which operands of instructions are indices of a module's items (WebAssembly Core 3.0, Indices and Instructions).
+-- The operands of instructions that are indices of a module's items (WebAssembly Core 3.0, Indices and Instructions).
 use Rattle.std.specs.Prelude.{ℕ, Bool, ◌||◌, ◌&&◌, ◌==◌, nat_le, Option, Some, None, if◌then◌else◌}
 use Rattle.wasm_instructions.specs.declared.table.opcode.Prefix.TheVariants as prefixes
 use Rattle.wasm_instructions.specs.declared.table.opcode.Opcode.{Opcode}

@@ -129,7 +129,7 @@ OfModule bytes P = (sections : List ModuleSectionParts) → whole_module.Encodes
 
 -- ---- the check of sections one after another
 
--- What the order of a section and the counts depend on.
+-- The facts of a section on which its order and the counts depend.
 abbrev pub facts_of : ModuleSectionParts → SectionFacts
 facts_of (custom c) = told.Other 0
 facts_of (types ts) = told.Other 1
@@ -168,7 +168,7 @@ rank_of (told.Data n) = 13
 rank_of (told.DataCount n) = 11
 rank_of (told.Other id) = rank_of_id id
 
--- What is known, or this if nothing is.
+-- The first option, or the second if the first is none.
 abbrev pub first_known : {A : Type 0} → Option A → Option A → Option A
 first_known None other = other
 first_known (Some a) other = Some a

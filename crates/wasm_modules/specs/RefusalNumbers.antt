@@ -7,7 +7,7 @@ use Rattle.wasm_code.specs.Modules.{CountsSections}
 use Rattle.wasm_sections.specs.formats.ModuleSectionParts.{ModuleSectionParts}
 use Rattle.wasm_sections.specs.formats.ModuleSections.{BreaksInSection}
 
--- What the numbers in a refusal count.
+-- The parts of the bytes that the numbers in a refusal count.
 pub record CountsParts (F : Format ModuleSectionParts) (bytes : List ℕ) (refusal : Refusal) : Type 0 where
   -- The sections before that at `at`.
   pub sections : CountsSections F bytes refusal

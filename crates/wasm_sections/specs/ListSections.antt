@@ -131,6 +131,6 @@ pub record EncodesSection {V : Type 0} (B : Format V) (Stands : V → Type 0) (i
 abbrev pub EncodesItems : {V : Type 0} → SectionOf V → EncodedItems → List ℕ → List ℕ → Result (Unit {0}) EncodeError → Type 0
 EncodesItems S section = EncodesSection (items S.format) (StandsForItems S.format section) S.id S.holding section
 
--- What holds for such a section that was written: its body encodes its items, and with the id it is the minimal encoding.
+-- Such a section was written: its body encodes its items, and with the id it is the minimal encoding of a section.
 abbrev pub IsWrittenList : {V : Type 0} → SectionOf V → EncodedItems → Type 0
 IsWrittenList S section = HoldsItems S.format section × IsSectionOfItems S.format S.id S.holding section

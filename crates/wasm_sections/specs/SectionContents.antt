@@ -1,4 +1,4 @@
--- What is read of a section whose body begins at an offset of an input: an iterator over the items of its list, or a value.
+-- The contents of a section whose body begins at an offset of an input: an iterator over its items, or a value.
 use Rattle.std.specs.Prelude.{◌≡◌, ◌-◌, ◌<◌, ◌≤◌, ℕ, Bool, List}
 use Rattle.wasm_codec.specs.Outcomes.{IsLongestPrefix}
 use Rattle.wasm_codec.specs.formats.Combinators.{Format, minimal_if, u32}

@@ -22,7 +22,7 @@ use Rattle.wasm_sections.specs.formats.ModuleSectionParts.{ModuleSectionParts, m
 use Rattle.wasm_sections.specs.formats.ModuleSections.{module_section}
 use Rattle.wasm_sections.specs.formats.Segments.{data_segment}
 
--- What the section's minimal encoding has after the id: the size of the body, and the body.
+-- The section's minimal encoding after the id: the size of the body, and the body.
 abbrev pub content_bytes : ModuleSectionParts → List ℕ
 content_bytes section = drop 1 (module_section.bytes section)
 
@@ -63,7 +63,7 @@ IsClosedContent section = Unit {0}
 abbrev pub IsWrittenContent : ModuleSectionParts → Type 0
 IsWrittenContent section = IsSectionAfter (section_id section) (content_bytes section) section
 
--- What holds for a section that was written.
+-- A section was written. Each of two conditions makes the bytes its minimal encoding.
 pub record WrittenContent (section : ModuleSection) : Type 0 where
   -- If its expressions close their blocks, the minimal encoding of the section was written.
   pub closed : IsClosedContent section → IsWrittenContent (module_section_parts section)

@@ -39,7 +39,7 @@ code_body = made code_body_of code_body_parts (sized function_code)
 abbrev pub FunctionParts : Type 0
 FunctionParts = List (ℕ × ValType) × List ℕ
 
--- What a function body stands for whose instructions are still bytes.
+-- The value of a function body whose instructions are still bytes: its locals and these bytes.
 abbrev pub function_parts : FunctionBody → FunctionParts
 function_parts body = (body.locals, body.instructions.now)
 

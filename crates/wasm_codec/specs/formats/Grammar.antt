@@ -1,7 +1,7 @@
 -- Grammars: which bytes encode which value, and how encodings are put together.
 use Rattle.std.specs.Prelude.{◌≡◌, ℕ, ◌<◌, Bool, true, false, List, [], ◌∷◌, ◌++◌, length, Option, Some, None}
 
--- Which bytes encode which value.
+-- A relation between bytes and the values that they encode.
 abbrev pub Grammar : Type 0 → Type 1
 Grammar V = List ℕ → V → Type 0
 

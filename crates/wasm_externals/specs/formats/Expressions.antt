@@ -17,7 +17,7 @@ abbrev pub closed : ℕ → Move ℕ
 closed zero = ends
 closed (suc depth) = goes_on depth
 
--- A `delegate` closes its `try`; it can't stand outside all blocks.
+-- A `delegate` closes its `try`. Outside all blocks it fails.
 abbrev pub delegated : ℕ → Move ℕ
 delegated zero = fails
 delegated (suc depth) = goes_on depth
