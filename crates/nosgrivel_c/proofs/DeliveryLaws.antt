@@ -1,4 +1,4 @@
--- What a call promises follows from what the normaliser or the check promises that it calls, and from its status.
+-- The promises of a call follow from those of the normaliser or the check that it calls, and from its status.
 use Rattle.std.proofs.Common.{◌≡◌, ◌≤◌, ℕ, List, length, take, Result, Ok, Err, inl, inr, refl, sym, subst, arith}
 use Rattle.std.specs.Global.{Vec}
 use Rattle.wasm_codec.specs.declared.reader.ReadError.{ReadError}

@@ -1,4 +1,4 @@
--- What `nosgrivel_strip` promises follows from the stripped form, and from the status.
+-- The promises of `nosgrivel_strip` follow from the stripped form, and from the status.
 use Rattle.std.proofs.Common.{◌≡◌, ◌≢◌, ◌∙◌, ℕ, false, List, [], ◌∷◌, ◌++◌, Result, Ok, Err, inl, inr, refl, sym, ap, subst, append_assoc, arith}
 use Rattle.std.proofs.lemmas.List.{append-nil}
 use Rattle.std.specs.Global.{Vec}

@@ -1,4 +1,4 @@
--- What a host learns follows from what the library says of the module.
+-- The results that a host gets follow from those that the library gives for the module.
 use Rattle.std.proofs.Common.{◌≤◌, ℕ, List, length, take, Option, Some, None, Result, Ok, Err, IfOk, IfErr, IfSome, inl, inr, sym, ap, ◌∙◌, subst, arith}
 use Rattle.wasm_codec.specs.declared.reader.refusal.Refusal.{Refusal}
 use Rattle.wasm_codec.specs.Decoding.{Checks, NormalisesTo}

@@ -1,4 +1,4 @@
--- What is written of code bodies.
+-- The bytes that are written for code bodies.
 use Rattle.std.proofs.Common.{◌≡◌, ℕ, suc, ◌-◌, ◌^◌, ◌<◌, ◌≤◌, List, [], ◌∷◌, ◌++◌, length, take, drop, append_assoc, length-append, Result, Ok, Err, refl, ap, subst, ◌∙◌, inr, arith, sym}
 use Rattle.std.specs.Prelude.{OnOk}
 use Rattle.std.specs.List.{All, AllByRecursion}

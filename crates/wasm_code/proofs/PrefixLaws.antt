@@ -1,4 +1,4 @@
--- What encodes a value is a prefix that decodes, and so is nothing at all.
+-- Bytes that encode a value are a prefix that decodes, and so is the empty list.
 use Rattle.std.proofs.Common.{◌≡◌, ℕ, ◌⊎◌, inl, inr, List, [], length, refl, sym, ap, arith}
 use Rattle.std.proofs.lemmas.List.{append-nil, length-append}
 use Rattle.wasm_codec.specs.formats.Combinators.{Format}

@@ -1,5 +1,5 @@
--- Two reasons of which one says that a body ends at the offset, and the other that bytes of it stand there, are never
--- both true of a refusal.
+-- If one reason says that a body ends at the offset, and another that it has bytes there, a refusal never makes both
+-- true.
 use Rattle.std.proofs.Common.{◌≡◌, ◌∙◌, ◌<◌, ◌+◌, ℕ, Bool, true, false, List, Option, Some, sym, arith}
 use Rattle.wasm_codec.proofs.Laws.{some_is}
 use Rattle.wasm_codec.specs.declared.reader.malformed.Reason.{Reason}

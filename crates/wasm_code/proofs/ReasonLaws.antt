@@ -1,4 +1,4 @@
--- What a check of a reason finds is what the reason says.
+-- A check of a reason finds what the reason says.
 use Rattle.std.proofs.Common.{◌≡◌, ◌<◌, ◌≤◌, ◌+◌, ◌||◌, ℕ, Bool, zero, suc, refl, [], ◌∷◌, nat_lt, arith, true, false, List, length, take, drop, Option, Some, None, Ok, nat_eq, subst, sym, ◌∙◌, ap}
 use Rattle.std.proofs.lemmas.Bool.{eqb-true, eq-eqb, lt-ltb, le-ltb}
 use Rattle.std.proofs.Math.Seq.{take-length}

@@ -1,4 +1,4 @@
--- The law of a format that goes on to the end of its bytes, and of what stands before such bytes.
+-- The law of a format that goes on to the end of its bytes, and of the parts before such bytes.
 use Rattle.std.proofs.Common.{◌≡◌, ℕ, zero, suc, ◌+◌, ◌%◌, ◌/◌, ◌^◌, ◌<◌, ◌≤◌, Bool, true, false, cond, eqb, ltb, List, [], ◌∷◌, ◌++◌, length, take, drop, Option, Some, None, refl, sym, ap, subst, ◌∙◌, length-append, inl, inr, arith}
 use Rattle.std.proofs.lemmas.List.{append-nil, take_at, drop_at, take-append-drop, length-take}
 use Rattle.std.proofs.lemmas.Bool.{eqb-true, eq-eqb, ltb-true, ltb-false, le-ltb}
@@ -130,7 +130,7 @@ pub IsBytes-prefix : (prefix back : List ℕ) → IsBytes (prefix ++ back) → I
 IsBytes-prefix [] back fits = tt
 IsBytes-prefix (b ∷ prefix) back fits = (fits.0, IsBytes-prefix prefix back fits.1)
 
--- these bytes stand at the place, after their number
+-- the place has these bytes, after their number
 pub record Body (p : Place) (body : List ℕ) (after : Place) : Type 0 where
   pub size : List ℕ
   pub counts : EncodesU32 size (length body)

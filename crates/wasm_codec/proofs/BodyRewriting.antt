@@ -41,7 +41,7 @@ opened old mid size mark e le mark-is =
 pub fits : (done : List ℕ) (mark digits size : ℕ) → length done - (mark + digits) ≤ size → digits ≡ length (unsigned_leb128 size) → length (unsigned_leb128 (length done - (mark + digits))) ≤ digits
 fits done mark digits size le is = rw is (subst (λ (d : ℕ). length (unsigned_leb128 (length done - (mark + d))) ≤ length (unsigned_leb128 size)) is (unsigned_leb128-mono (length done - (mark + digits)) size le))
 
--- a size that stands there already
+-- a size that is already written
 pub same_size : (r : Rewriting) (mark digits size : ℕ) → digits ≡ length (unsigned_leb128 size) → mark + digits ≤ length r.done → length r.done - (mark + digits) ≡ size → take digits (drop mark r.done) ≡ unsigned_leb128 size → resized mark digits r ≡ r
 same_size r mark digits size is le len there =
     let digits-are : unsigned_leb128 (length r.done - (mark + digits)) ≡ take digits (drop mark r.done) = ap unsigned_leb128 len ∙ sym there in

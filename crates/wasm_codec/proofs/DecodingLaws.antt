@@ -1,4 +1,4 @@
--- What a caller gets of a call that decodes all of its bytes follows from what its implementation owes, by the law of the format.
+-- The promises of a call that decodes all bytes follow from those of its implementation, by the law of the format.
 use Rattle.std.proofs.Common.{◌≡◌, ◌∙◌, refl, sym, subst, ◌≤◌, ℕ, List, ◌++◌, length, take, Result, Ok, Err, IfOk, ap, arith}
 use Rattle.std.proofs.lemmas.List.{take_at}
 use Rattle.std.specs.Global.{Vec}

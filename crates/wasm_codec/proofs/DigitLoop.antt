@@ -107,6 +107,6 @@ digits_end most bytes i b value place rest less low byte so_far v p =
     let pow : place * 128 ≡ 128 ^ (i + 1) = rw (p, add-one) (omega (arith, pow-suc)) in
     (take (i + 1) bytes, read, (value_more bytes i b value place lt byte.byte v p, pow ∙ ap (λ (k : ℕ). 128 ^ k) (sym len), last_is bytes i b lt byte.byte))
 
--- another digit comes
+-- another digit follows
 pub digits_more : (most : ℕ) (bytes : List ℕ) (i b : ℕ) (rest : List ℕ) → i < most → 128 ≤ b → ByteAt bytes i b rest → reads_on most bytes i ≡ digits_at most bytes → reads_on most bytes (i + 1) ≡ digits_at most bytes
 digits_more most bytes i b rest less high byte so_far = sym (goes_on most bytes i byte.within less (rw byte.byte high)) ∙ so_far

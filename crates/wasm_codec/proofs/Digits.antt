@@ -1,4 +1,4 @@
--- Digits: what is read of them, and the fewest that stand for a number.
+-- Digits: the numbers that are read from them, and the fewest that stand for a number.
 use Rattle.std.proofs.Common.{◌≡◌, ℕ, zero, suc, ◌+◌, ◌*◌, ◌%◌, ◌/◌, ◌^◌, ◌<◌, ◌≤◌, Bool, true, false, cond, ltb, List, [], ◌∷◌, ◌++◌, length, Option, Some, refl, sym, ap, subst, inl, inr, arith}
 use Rattle.std.proofs.lemmas.Bool.{ltb-true, lt-ltb, ltb-false, le-ltb}
 use Rattle.std.proofs.lemmas.Nat.{div_below}

@@ -88,7 +88,7 @@ longer_cons b bytes encoding (inr lt) = inr (omega arith)
 pub taken_fits : (p q : Place) (b : ℕ) → byte_at p ≡ Some (b, q) → IsBytes p.left → (b < 256) × IsBytes q.left
 taken_fits p q b e fits = subst IsBytes (byte_took p q b e).bytes fits
 
--- what was read is what the reading function answered
+-- the bytes begin with the value that the reading function returned
 pub BeginsWith-at : {V : Type 0} (G : Grammar V) (bytes : List ℕ) (a v : V) (after rest : Place) → some {A = V × Place} (a, after) ≡ some (v, rest) → BeginsWith G bytes a after.left → BeginsWith G bytes v rest.left
 BeginsWith-at {V} G bytes a v after rest e h = subst (λ (x : V × Place). BeginsWith G bytes x.0 x.1.left) (some_is (a, after) (v, rest) e) h
 

@@ -1,4 +1,4 @@
--- What an input takes is what a cursor reads, or what a rewriter gives.
+-- An input takes the value that a cursor reads, or that a rewriter gives.
 use Rattle.std.proofs.Common.{◌≡◌, [], true, false, Some, Result, Ok, Err, refl}
 use Rattle.wasm_codec.specs.declared.reader.cursor.Fault.{Fault}
 use Rattle.wasm_codec.specs.declared.reader.cursor.Fault.TheVariants as faults

@@ -51,7 +51,7 @@ one_reading {V} {G} {read} r a b x y v w g h e =
 
 -- ---- IsReadBy
 
--- what was read is what the reading function answered
+-- the bytes begin with the value that the reading function returned
 pub BeginsWith-is : {V : Type 0} (G : Grammar V) (bytes : List ℕ) (a v : V) (after rest : List ℕ) → some {A = V × List ℕ} (a, after) ≡ some (v, rest) → BeginsWith G bytes a after → BeginsWith G bytes v rest
 BeginsWith-is {V} G bytes a v after rest e h = subst (λ (x : V × List ℕ). BeginsWith G bytes x.0 x.1) (some_is (a, after) (v, rest) e) h
 

@@ -18,7 +18,7 @@ use Rattle.wasm_codec.proofs.PlaceLists.{plain_reads}
 pub IsReadBy-list : {V : Type 0} {G : Grammar V} {read : PlainReader V} → IsReadBy G read → IsReadBy (EncodesList G) (list_at read)
 IsReadBy-list r = IsReadBy-counted (plain_reads Lawful-u32.reads) r
 
--- What is read of items is what is encoded, and each takes bytes.
+-- The function reads exactly the items that are encoded, and each takes bytes.
 pub record ItemLaws {V : Type 0} (G : Grammar V) (read : PlainReader V) : Type 0 where
   pub finds : IsReadBy G read
   pub some : TakesBytes G
@@ -99,7 +99,7 @@ taken_more {V} laws bytes left rest count vs v fits t lt e =
     let after : IsBytes t.after = IsBytes-back t.head t.after (rw t.parts at fits) in
     record { head = t.head; after = t.after; counted = t.counted; parts = t.parts; progress = (next laws.finds laws.some t.after left rest vs v after t.progress e).progress; few = omega (arith, length-append vs (v ∷ [])) }
 
--- nothing longer is whole: no item comes next, or there are as many as the count says
+-- no longer prefix is a whole one: no item is next, or the items are as many as the count says
 abbrev IsStopped : {V : Type 0} → PlainReader V → List ℕ → ℕ → List V → Type 0
 IsStopped read left count vs = (read left ≡ None) ⊎ (length vs ≡ count)
 
@@ -187,7 +187,7 @@ gone_more {V} {Count} {number} {G} {read} finds some bytes left rest count i vs 
       known = inr laws;
     }
 
--- What is known where a list was read, or not.
+-- The facts about a call that read a list, or refused it.
 pub record Answered {X V : Type 0} (Count : Grammar ℕ) (number : PlainReader ℕ) (G : Grammar V) (read : PlainReader V) (old new : List ℕ) (r : Result X Fault) : Type 0 where
   pub finds : UnlessMemory r (FindsAt (Counted Count G) (plain_counted_at number read) old)
   pub prefix : UnlessMemory r (IsAfterLongest (IsCountedPrefix Count G) old new)

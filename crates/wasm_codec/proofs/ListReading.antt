@@ -63,7 +63,7 @@ IsBytes-drop bytes n fits = IsBytes-back (take n bytes) (drop n bytes) (rw (take
 
 -- ---- normal forms
 
--- ---- what is answered
+-- ---- results
 
 -- bytes encode at most one value
 abbrev pub AtMostOne : {V : Type 0} → Grammar V → Type 0
@@ -122,7 +122,7 @@ gives_normal one s view bytes (Err e) given = tt
 pub gives_itself : {X : Type 0} (view : X → List ℕ) (bytes encoding : List ℕ) (result : Result X ReadError) → bytes ≡ encoding → IsOrMemory view encoding result → IsOrMemory view bytes result
 gives_itself view bytes encoding result e given = subst (λ (t : List ℕ). IsOrMemory view t result) (sym e) given
 
--- what is given as it is, is a minimal encoding
+-- bytes that a call returns unchanged are a minimal encoding
 pub was_minimal : {X V : Type 0} (G S : Grammar V) (encoding_of : V → List ℕ) (view : X → List ℕ) (bytes : List ℕ) (result : Result X ReadError) → ((v : V) → G bytes v → bytes ≡ encoding_of v → S bytes v)
     → IfOk result (λ x. IsNormalForm G encoding_of bytes (view x)) → IfOk result (λ x. view x ≡ bytes → EncodesSome S bytes)
 was_minimal G S encoding_of view bytes (Ok x) is given = λ e. (given.value, is given.value given.encoded (sym e ∙ given.is_minimal))

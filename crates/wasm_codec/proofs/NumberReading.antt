@@ -61,7 +61,7 @@ longer_digits turn top (suc room) (suc more) n le lt =
     let again = longer_digits turn top room more (n / 128) (omega arith) (omega arith) in
     rw (le-ltb n top no) (omega arith)
 
--- whether the digits are the fewest is told by the number
+-- the number decides whether the digits are the fewest
 pub fewest_is : (turn : Bool) (top k n : ℕ) → n < top * 128 ^ k → k < 10 → eqb (suc k) (length (digits_of turn top 9 n)) ≡ fewest top (128 ^ suc k) n
 fewest_is turn top zero n lt few =
     let some = some_digits turn top 9 n in

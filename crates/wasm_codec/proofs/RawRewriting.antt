@@ -7,7 +7,7 @@ use Rattle.wasm_codec.specs.formats.Combinators.{little_endian, with_low}
 use Rattle.wasm_codec.proofs.RawFormatLaws.{low_and_high_are}
 use Rattle.wasm_codec.proofs.RewriterLaws.{after_is}
 
--- what stands in the next bytes
+-- the number in the next bytes
 pub record Number (count : ℕ) (p : Place) : Type 0 where
   pub value : ℕ
   pub is_read : (little_endian count).at p ≡ Some (value, place p.minimal (drop count p.left))

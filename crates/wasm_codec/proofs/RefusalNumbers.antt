@@ -1,4 +1,4 @@
--- The numbers in a refusal: what stands before the part that is refused.
+-- The numbers in a refusal count the parts before the one that is refused.
 use Rattle.std.proofs.Common.{◌≡◌, ℕ, ◌+◌, ◌-◌, ◌<◌, ◌≤◌, Bool, List, [], ◌∷◌, ◌++◌, length, Option, drop, Some, None, Err, refl, sym, ap, subst, ◌∙◌, append_assoc, length-append, inl, inr, arith}
 use Rattle.std.proofs.lemmas.List.{drop_at}
 use Rattle.wasm_codec.specs.declared.reader.cursor.Fault.{Fault}

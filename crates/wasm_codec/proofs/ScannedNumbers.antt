@@ -80,7 +80,7 @@ magnitude_last turn (a ∷ front) b =
     let q : (complemented turn (b % 128) + 1) * (128 * 128 ^ length front) ≡ 128 * times = mul_left_comm (complemented turn (b % 128) + 1) 128 (128 ^ length front) in
     rw (p, q) (omega (arith, d, again))
 
--- a last digit that stands for something
+-- a last digit that isn't zero makes the number at least 128 to the number of digits before
 magnitude_from : (turn : Bool) (front : List ℕ) (b : ℕ) → 0 < complemented turn (b % 128) → 128 ^ length front ≤ magnitude turn (front ++ b ∷ [])
 unfolding magnitude
 magnitude_from turn [] b some = omega arith
@@ -101,7 +101,7 @@ magnitude_from_two turn (a ∷ c ∷ front) b some le =
 
 -- ---- as few digits as there can be
 
--- digits that stand for a number, where one less can't
+-- digits that stand for a number are the fewest if one less can't
 pub fewest_stand : (turn : Bool) (top k n : ℕ) (digits : List ℕ) → top ≤ 128 → n < top * 128 ^ 9 → k < 10 → Stands turn top digits n → (k ≡ 0 ⊎ (0 < k × (top * 128 ^ (k - 1) ≤ n))) → length digits ≡ suc k → digits ≡ digits_of turn top 9 n
 fewest_stand turn top k n digits wide room few h at_least len = elim (digits_least turn top 9 digits n wide room h) [
   | inl same ↦ same
@@ -229,7 +229,7 @@ unsigned_found most limit room front end begin last c =
 
 -- ---- signed numbers
 
--- where the last digit doesn't repeat the sign, it and the one before it stand for 64 or more
+-- if the last digit doesn't repeat the sign, it and the one before it stand for 64 or more
 two_digits : (turn : Bool) (before end : ℕ) → end < 128 → leb 64 end ≡ turn → repeats true before end ≡ false → 64 ≤ complemented turn (before % 128) + 128 * complemented turn (end % 128)
 two_digits turn before end lt turns e = by (leb 64 (before % 128)) refl turn turns e where
   by : (t : Bool) → leb 64 (before % 128) ≡ t → (turn : Bool) → leb 64 end ≡ turn → cond t (eqb end 127) (eqb end 0) ≡ false → 64 ≤ complemented turn (before % 128) + 128 * complemented turn (end % 128)
@@ -295,7 +295,7 @@ more_before (suc k) (suc n) (b ∷ bytes) le m = (m.0, more_before k n bytes (om
 low_is : (b : ℕ) → b % 128 < 128
 low_is b = omega arith
 
--- what is known of the most digits, and of what the last of these may stand for
+-- bounds on the most digits, and on the numbers that the last of these may stand for
 record Bounds (most top limit : ℕ) : Type 0 where
   wide : 128 ^ most ≤ limit
   tops : top * 128 ^ most ≤ limit

@@ -91,7 +91,7 @@ shortens bytes moved written from position end s g (suc k) n gap run some le fit
     let behind : (i : ℕ) → position + n ≤ i → drop i (set moved last (x % 128)) ≡ drop i bytes = λ i far. drop-set-lt i moved last (x % 128) (omega arith) ∙ later moved bytes (position + suc k) i (omega arith) left in
     rw (whole, behind (position + n) (omega arith), behind end fits, left_after bytes position end n fits) refl
 
--- ---- the byte that comes next
+-- ---- the next byte
 
 pub next_byte : (bytes : List ℕ) (position end x : ℕ) → position < end → end ≤ length bytes → x ≡ get_or bytes position 0 → take (end - position) (drop position bytes) ≡ x ∷ take (end - (position + 1)) (drop (position + 1) bytes)
 next_byte bytes position end x lt fits is =

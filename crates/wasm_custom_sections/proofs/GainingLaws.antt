@@ -1,4 +1,4 @@
--- What is added to lists that are encoded value by value.
+-- The values that are added to lists that are encoded value by value.
 use Rattle.std.proofs.Common.{◌≡◌, ℕ, suc, ◌+◌, ◌⊎◌, inl, inr, List, [], ◌∷◌, ◌++◌, length, Result, Ok, Err, OnOk, OnErr, IfErr, sym, ap, subst, ◌∙◌, arith}
 use Rattle.std.specs.List.{All, AllByRecursion}
 use Rattle.wasm_codec.specs.declared.encode.EncodeError.{EncodeError}
@@ -62,7 +62,7 @@ adds_naming was old new index text r same count bytes written unchanged refusal 
 
 -- ---- a value with a list of such values
 
--- what is appended is the value's encoding, and the value is in range, for each list of values that the inner one stands for
+-- for each list that the inner one stands for, the bytes appended are the value's encoding, and the value is in range
 module _ {V W : Type 0} (F : Format V) (G : Format W) (make : List V → W) (was old inner new : EncodedItems) (encoding : List ℕ) (r : Result (Unit {0}) EncodeError) (same : was ≡ old) where
   with_gained : {P : Type 0} (s : Result (Unit {0}) EncodeError) → (P → (values : List V) → StandsForItems F inner values → (encoding ≡ G.bytes (make values)) × G.InRange (make values)) → OnOk s (new.count ≡ was.count + 1) → OnOk s (new.bytes ≡ was.bytes ++ encoding) → OnOk s P → OnOk s (GainsWith F G make was inner new)
   with_gained (Ok x) are count bytes written = λ values stands.

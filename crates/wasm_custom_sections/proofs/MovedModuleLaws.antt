@@ -72,7 +72,7 @@ went_well : {E : Type 0} (outcome : Result (Unit {0}) E) (P : Type 0) → outcom
 went_well (Ok x) P is p = p
 went_well (Err e) P is p = absurd cc
 
--- the call that is told to be done went well
+-- a call that is said to be done went well
 if_done : {E : Type 0} (told : Result Bool AllocError) (outcome : Result (Unit {0}) E) (P : Type 0) → IfOk told (λ done. done ≡ true → outcome ≡ Ok tt) → OnOk outcome P → IfOk told (λ done. done ≡ true → P)
 if_done (Ok b) outcome P is ok = λ e. went_well outcome P (is e) ok
 if_done (Err e) outcome P is ok = tt

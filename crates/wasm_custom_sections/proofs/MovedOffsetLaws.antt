@@ -80,7 +80,7 @@ pub each_fits : {A : Type 0} {R : A → A → Type 0} (P Q : A → Type 0) {xs y
 each_fits P Q keeps all none = tt
 each_fits P Q keeps all (more {x = x} {y = y} r rest) = (keeps x y all.0 r, each_fits P Q keeps all.1 rest)
 
--- ---- an instruction that stands in both
+-- ---- an instruction that both have
 
 Joined-append : {V : Type 0} (G : Grammar V) (a b : List ℕ) (vs ws : List V) → Joined G a vs → Joined G b ws → Joined G (a ++ b) (vs ++ ws)
 Joined-append {V} G a b [] ws g h = subst (λ (t : List ℕ). Joined G (t ++ b) ws) (sym g) h

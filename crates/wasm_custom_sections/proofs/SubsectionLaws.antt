@@ -71,7 +71,7 @@ name_data_is_minimal = joined_minimal_only subsection_is_lawful
 
 -- ---- the kinds
 
--- after this id stand the size and a content of this format
+-- this id precedes the size and a content of this format
 pub record IsKind {V : Type 0} (id : ℕ) (make : V → SubsectionParts) (F : Format V) : Type 0 where
   pub at_is : (p after : Place) → byte_at p ≡ Some (id, after) → name_subsection.at p ≡ map_at make (sized F).at after
   pub bytes_are : (v : V) → name_subsection.bytes (make v) ≡ id ∷ (sized F).bytes v
@@ -134,7 +134,7 @@ unknown_made : (id : ℕ) (o : Option (List ℕ × Place)) →
 unknown_made id None = refl
 unknown_made id (Some x) = refl
 
--- after an unknown id stand any bytes
+-- an unknown id precedes any bytes
 pub unknown_at : (id : ℕ) → 11 < id → (p after : Place) → byte_at p ≡ Some (id, after) → name_subsection.at p ≡ map_at (unknown id) byte_list.at after
 unfolding name_subsection
 unknown_at id far p after e = rw (e, other id 0 (omega (arith, far)), other id 1 (omega (arith, far)), other id 2 (omega (arith, far)), other id 3 (omega (arith, far)), other id 4 (omega (arith, far)), other id 5 (omega (arith, far)), other id 6 (omega (arith, far)), other id 7 (omega (arith, far)), other id 8 (omega (arith, far)), other id 9 (omega (arith, far)), other id 10 (omega (arith, far)), other id 11 (omega (arith, far)), lt-ltb 11 id far) (unknown_made id (byte_list.at after))

@@ -121,7 +121,7 @@ adds_bodies was old new more r same count bytes can written unchanged refused to
       too_many = too_many;
     })
 
--- ---- what a section that stands for bodies writes
+-- ---- the bytes that a section of bodies writes
 
 section_is_body : (section : EncodedItems) (bodies : List CodeBody) → StandsForBodies section bodies → body_bytes section ≡ code_section_body.bytes bodies
 unfolding code_section_body

@@ -1,4 +1,4 @@
--- What a section or a function stands for, where it is known what the iterators give that it is made of.
+-- The values that a section or a function stands for, if the items that its iterators give are known.
 use Rattle.std.proofs.Common.{◌≡◌, ℕ, ◌+◌, ◌^◌, ◌≤◌, ◌⊎◌, List, [], ◌∷◌, ◌++◌, length, drop, Option, Result, Ok, Err, OnOk, OnErr, IfErr, ap, refl, sym, subst, ◌∙◌}
 use Rattle.std.specs.Prelude.{IsErrOf}
 use Rattle.std.specs.List.{All}

@@ -124,7 +124,7 @@ locals_not_made groups kept types e same are refused = record { made = tt; refus
       inr (is, omega (arith, few, count, all, long))
   why (inr (inr some)) = absurd (none_refused groups some)
 
--- an error that is handed on
+-- a call returns the error of another
 pub handed_on : (types : List ValType) (r : Result (List ℕ) EncodeError) (e : EncodeError) → IsErrAnd r (λ x. x ≡ e) → MakesLocals types (Err e) → MakesLocals types r
 handed_on types (Ok x) e is made = absurd is
 handed_on types (Err x) e is made = subst (λ (y : EncodeError). MakesLocals types (Err y)) (sym is) made

@@ -1,4 +1,4 @@
--- What a caller unfolds to compute the bytes of calls and numbers that are written out.
+-- The definitions that a caller unfolds to compute the bytes of literal calls and numbers.
 use Rattle.std.specs.Prelude.{⊤}
 use Rattle.wasm_codec.specs.Leb128.{unsigned_leb128, signed_leb128, digits_of}
 use Rattle.wasm_types.specs.formats.Types.{abstract_type, heap_type, ref_type, val_type}

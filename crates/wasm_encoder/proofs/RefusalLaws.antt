@@ -77,7 +77,7 @@ calls_or (call ∷ calls) = more (list_or call.operands) (calls_or calls) where
 body_or : (b : CodeBody) → CountedBody b ⊎ UncountedBody b
 body_or b = three_or (counted_or (length b.locals)) (calls_or b.calls) (counted_or (length (func_bytes b)))
 
--- ---- what is answered
+-- ---- results
 
 pub func_refused : (old : EncodedItems) (f : FuncType) (e : EncodeError) → IsRefusalOfOne CountedFunc OnlyTooLong old f e → IsMemoryOrTooLong (IsFull old ⊎ UncountedFunc f) e
 func_refused old f e refused = of_one CountedFunc old f e (func_or f) refused

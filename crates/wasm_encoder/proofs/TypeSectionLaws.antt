@@ -59,7 +59,7 @@ gains old new entry count bytes can fits = gains_one recursive_type CountedEntry
 pub gains_final : (old new : EncodedItems) (i : CompositeInnerType) → new.count ≡ old.count + 1 → new.bytes ≡ old.bytes ++ inner_type.bytes i → CountedInner i → IsMinimal inner_type.Encodes inner_type.bytes i → Gains old (final_entry i) new
 gains_final old new i count bytes can h = gains old new (final_entry i) count (rw (final_is i) bytes) (final_counted i can) (final_in_range i (in_range_of inner_type Lawful-inner-type i h))
 
--- the same, of what is answered
+-- the same of results
 
 gains_sub_ok : {T E : Type 0} (r : Result T E) (old new : EncodedItems) (s : SubType) → OnOk r (new.count ≡ old.count + 1) → OnOk r (new.bytes ≡ old.bytes ++ sub_type.bytes s) → OnOk r (CountedSub s) → OnOk r (IsMinimal sub_type.Encodes sub_type.bytes s) → OnOk r (Gains old (entries.Sub s) new)
 unfolding recursive_type
@@ -118,7 +118,7 @@ module _ (was old new : EncodedItems) (r : Result (Unit {0}) EncodeError) (same 
     pub adds_cont : (c : ContType) → OnOk r (new.bytes ≡ was.bytes ++ inner_type.bytes (inner.Cont c)) → OnOk r (IsMinimal inner_type.Encodes inner_type.bytes (inner.Cont c)) → AddsEntry old (final_entry (inner.Cont c)) new r
     adds_cont c bytes written = adds_short (final_entry (inner.Cont c)) (gains_final_ok r was new (inner.Cont c) count bytes (counted r) written)
 
--- ---- what a section that stands for entries writes
+-- ---- the bytes that a section of entries writes
 
 is_minimal : (section : EncodedItems) (entries : List TypeEntry) → StandsFor section entries → body_bytes section ≡ type_body.bytes entries
 unfolding type_body

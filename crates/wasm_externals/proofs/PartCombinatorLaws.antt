@@ -19,13 +19,13 @@ use Rattle.wasm_codec.proofs.FormatLaws.{IsShorter, BeginsWith-at, keeps_then, r
 use Rattle.wasm_codec.proofs.BodyLaws.{some_bytes}
 use Rattle.wasm_externals.specs.formats.PartCombinators.{some_of, part_if, is_other, numbered_bytes, NumberedInRange, numbered, Move, goes_on, ends, fails, GoesOnWith, AreEnded, moved, until_at, until}
 
--- ---- a part that is there where a flag tells so
+-- ---- a part that depends on a flag
 
 pub Lawful-part-if : {A : Type 0} {F : Format A} (there : Bool) → IsLawful F → IsLawful (part_if there F)
 unfolding part_if
 Lawful-part-if there r = Lawful-choose there (Lawful-made some_of (λ o. o) (λ a. refl) r) (Lawful-nothing None)
 
--- the flag tells whether it is there
+-- a part in range is a `Some` if and only if the flag is true
 pub part_tells : {A : Type 0} (F : Format A) (there : Bool) (o : Option A) → (part_if there F).InRange o → is_some o ≡ there
 unfolding part_if
 part_tells F true (Some a) fits = refl

@@ -1,5 +1,5 @@
--- What the types of the parts of a call say of its numbers, and what is known of its lists, puts it in the range of its
--- format; and what that says of it.
+-- A call is in the range of its format by the types of its numbers and by the facts about its lists. Then the
+-- consequences of being in range.
 use Rattle.std.proofs.Common.{ne_eqb, arith, ℕ, Bool, true, false, List, [], ◌∷◌, Option, Result, Ok, Err, OnOk, refl, subst}
 use Rattle.wasm_types.specs.formats.Types.{val_type}
 use Rattle.wasm_types.proofs.WrittenTypes.{heap_in_range, val_in_range}

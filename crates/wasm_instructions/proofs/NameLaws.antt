@@ -1,4 +1,4 @@
--- The names of opcodes stand at their numbers, and no opcode lies past the names of its prefix.
+-- The table has the names of opcodes at their numbers, and no opcode lies past the names of its prefix.
 use Rattle.std.proofs.Common.{◌≡◌, ℕ, zero, suc, ◌<◌, ◌≤◌, true, IsTrue, List, [], ◌∷◌, length, map, get_or, Option, Some, None, is_some, refl, sym, ap, subst, ◌∙◌, arith}
 use Rattle.std.proofs.lemmas.List.{length-map}
 use Rattle.wasm_codec.specs.Reading.{◌>>=◌}

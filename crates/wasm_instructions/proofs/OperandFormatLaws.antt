@@ -1,4 +1,4 @@
--- The laws of the formats of what stands after opcodes.
+-- The laws of the formats of operands.
 use Rattle.std.proofs.Common.{◌≡◌, ℕ, ◌+◌, ◌-◌, ◌^◌, ◌<◌, ◌≤◌, Bool, true, false, not, ◌&&◌, cond, ltb, eqb, List, [], ◌∷◌, ◌++◌, length, Some, refl, sym, ap, subst, ◌∙◌, length-append, inl, inr, arith, lit≤}
 use Rattle.std.proofs.lemmas.Bool.{ltb-true, ltb-false, lt-ltb, le-ltb, eqb-true}
 use Rattle.wasm_instructions.specs.declared.operands.control.BlockType.{BlockType}

@@ -62,7 +62,7 @@ pub is_within : (s : Scanned) (n most : ℕ) → n ≤ most → IsWithin s n →
 is_within (scanned.Minimal count) n most le w = omega (arith, le, w)
 is_within (scanned.Padded signed start more) n most le w = (w.0, omega (arith, le, w.1))
 
--- what is told of bytes is told of them behind one more
+-- if `F` reads a value from the bytes, `G` reads one from the byte `b` and them, and leaves the same bytes
 abbrev Behind : {V W : Type 0} (F : Format V) (G : Format W) (b : ℕ) (bytes : List ℕ) → Type 0
 Behind {V} {W} F G b bytes = (v : V) (s : Bool) (left : List ℕ) → F.at (place true bytes) ≡ Some (v, place s left) → (w : W) × ((G.at (place true (b ∷ bytes)) ≡ Some (w, place s left)) × (G.bytes w ≡ b ∷ F.bytes v))
 

@@ -1,4 +1,4 @@
--- What is rewritten only where it is in its minimal encoding: items, and the count before them.
+-- Items, and the count before them, that are rewritten only if they are minimally encoded.
 use Rattle.std.specs.Borrow.{GName}
 use Rattle.std.proofs.Common.{◌≡◌, ℕ, ◌+◌, ◌-◌, ◌<◌, ◌≤◌, true, false, List, [], ◌++◌, length, Option, Some, None, Result, Ok, Err, IfOk, IfErr, refl, sym, ap, subst, ◌∙◌, append_assoc, length-append, inl, inr, arith}
 use Rattle.std.specs.Prelude.{is_some}

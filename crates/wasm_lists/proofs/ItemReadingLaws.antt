@@ -1,4 +1,4 @@
--- What an iterator over items gives in all, from what each call gives.
+-- All items that an iterator gives, from those that each call gives.
 use Rattle.std.proofs.Common.{◌≡◌, ℕ, zero, suc, ◌+◌, ◌-◌, ◌<◌, ◌≤◌, Bool, true, false, List, [], ◌∷◌, ◌++◌, length, Option, Some, None, Result, Ok, Err, inl, inr, refl, sym, ap, subst, IfSome, option_map, ◌^◌, ◌∙◌, append_assoc, length-append, arith}
 use Rattle.std.proofs.lemmas.List.{append-nil}
 use Rattle.wasm_codec.specs.declared.reader.DecodeError.{DecodeError}
@@ -39,7 +39,7 @@ some_minimally F false some v e = some v e
 
 -- ---- one call
 
--- what the fields of an iterator stand for
+-- the state that the fields of an iterator stand for
 abbrev pub reading_of : ℕ → ℕ → Place → Option ℕ → ℕ → Bool → Bool → Reading
 reading_of start len here count passed strict ended = record {
   offset = start + (len - length here.left);

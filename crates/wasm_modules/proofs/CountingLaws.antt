@@ -71,7 +71,7 @@ counted_short {V} {F} r old here next count i longer w lt e as_many =
     let has : HasLonger F (w.back ++ one.prefix) (w.items ++ one.value ∷ []) longer = subst (λ (t : List ℕ). HasLonger F (w.back ++ t) (w.items ++ one.value ∷ []) longer) (sym same) (minimal one.value w.longer_items (r.minimal.again one.prefix one.value one.encodes)) in
     counted_next r old here next count i longer longer w lt e one has (omega (arith, w.few))
 
--- what stays isn't told to be longer
+-- an item that stays isn't longer than its minimal encoding
 stays_short : {V : Type 0} (F : Format V) (here next : Rewriting) → Stays F here next → TellsLonger here next false
 stays_short F here next s =
     let done : length next.done ≡ length here.done + s.size = omega (arith, ap (λ (r : Rewriting). length r.done) s.kept, length-append here.done (take s.size here.place.left), length-take-le s.size here.place.left s.within) in
@@ -112,7 +112,7 @@ done_fails : (result : Result (Option ItemCounts) Fault) → FailsMalformed resu
 done_fails (Ok x) bad = absurd bad
 done_fails (Err fault) bad = bad
 
--- no id is there
+-- a section needs an id
 pub no_section : (old new : Rewriting) (fault : Fault) → Gives a_byte old new (Err fault) → Rewrites module_section old new (Err fault)
 unfolding module_section
 no_section old new faults.Memory none = none

@@ -128,7 +128,7 @@ op_names_none bytes op (inr (inr (inr (inr g)))) none = subst (λ (o : Opcode). 
 
 -- ---- instructions
 
--- the opcode of an encoded instruction comes first
+-- an instruction whose bytes have no such prefix names no data, since its opcode is first
 call_names_none : (bytes : List ℕ) (i : Instruction) → instruction.Encodes bytes i → NoneIn bytes → names_data i ≡ false
 unfolding instruction
 call_names_none bytes i g none =
@@ -175,7 +175,7 @@ code_names_none bytes body g none = position_from-zero names_data body.calls ∙
 
 -- ---- the bodies of a code section
 
--- a body stands at a place: its size, its code and these bytes
+-- the place begins with a body: its size, its code, then these bytes
 pub record BodyAt (old : Place) (back : List ℕ) (body : CodeBody) : Type 0 where
   pub size : List ℕ
   pub code : List ℕ
@@ -210,7 +210,7 @@ clear_code left size code back ahead parts le clear k lt =
     let next : get_or left (length size + k + 1) 0 ≡ get_or code (k + 1) 0 = ap (λ (n : ℕ). get_or left n 0) (omega arith) ∙ ap (λ (l : List ℕ). get_or l (length size + (k + 1)) 0) parts ∙ get_or-append-add size (code ++ back) (k + 1) 0 ∙ get_or_append_left code back 0 (k + 1) lt in
     rw (← here, ← next) (clear (length size + k) (omega (arith, all, lt, le)) (omega (arith, all, lt)))
 
--- and in what comes after it
+-- and in the rest after it
 pub clear_rest : (left first rest : List ℕ) (ahead : ℕ) → left ≡ first ++ rest → Clear ahead left → Clear ahead rest
 clear_rest left first rest ahead parts clear k lt more =
     let lengths = length-append first rest in
@@ -224,7 +224,7 @@ clear_rest left first rest ahead parts clear k lt more =
 other_prefix : (prefix number : ℕ) → (prefix ≡ 0xfb → ⊥) → (prefix ≡ 0xfc → ⊥) → may_name_data prefix number ≡ false
 other_prefix prefix number not_fb not_fc = rw (ne_eqb prefix 0xfb not_fb, ne_eqb prefix 0xfc not_fc) refl
 
--- a block without a prefix comes next
+-- the next block has no prefix
 pub clear_block : (bytes : List ℕ) (at end : ℕ) → at ≤ end → end ≤ length bytes → ClearWithin bytes 0 at → HasNoPrefix (take (end - at) (drop at bytes)) → ClearWithin bytes 0 end
 clear_block bytes at end le within so_far none k from lt more = by (ltb k at) refl where
   by : (t : Bool) → ltb k at ≡ t → may_name_data (get_or bytes k 0) (get_or bytes (k + 1) 0) ≡ false

@@ -39,7 +39,7 @@ pub record Unread (code : List ℕ) (calls : List Instruction) (left : List ℕ)
 abbrev pub Reading : List ℕ → List ℕ → ℕ → Type 0
 Reading code left index = (locals : List (ℕ × ValType)) (calls : List Instruction) → function_code.Encodes code (locals, calls) → Unread code calls left index
 
--- the search comes to this result
+-- the search finds the first instruction that names data
 abbrev pub Finds : List ℕ → Option ℕ → Type 0
 Finds code found = (locals : List (ℕ × ValType)) (calls : List Instruction) → function_code.Encodes code (locals, calls) → found ≡ position names_data calls
 
@@ -165,7 +165,7 @@ pub record Unsearched (section : List ℕ) (bodies : List CodeBody) (left : List
 abbrev pub Searching : List ℕ → List ℕ → ℕ → ℕ → ℕ → Type 0
 Searching section left count index ahead = (bodies : List CodeBody) → (items code_body).Encodes section bodies → Unsearched section bodies left count index ahead
 
--- the search comes to this result
+-- the search of all bodies has this result
 abbrev pub Tells : List ℕ → Option InstructionPlace → Type 0
 Tells section place = (bodies : List CodeBody) → (items code_body).Encodes section bodies → TellsDataUse bodies place
 

@@ -10,7 +10,7 @@ use Rattle.wasm_modules.specs.Offsets.{BeginsWith}
 
 -- ---- the beginning of a name
 
--- what is told of a beginning that was looked for
+-- a search for a beginning finds it and returns the rest of the name, or finds that the name has another
 abbrev pub Stripped : {X : Type 0} → (X → List ℕ) → List ℕ → List ℕ → Option X → Type 0
 Stripped now beginning name r = MatchOption r (pointwise eqb (take (length beginning) name) beginning ≡ false) (λ x. (pointwise eqb (take (length beginning) name) beginning ≡ true) × (now x ≡ drop (length beginning) name) × (length (now x) + length beginning ≡ length name))
 
@@ -27,7 +27,7 @@ begins_not now beginning name None h e w =
 
 -- ---- what a reader answers
 
--- what holds of a result that is given, told otherwise
+-- a fact about each result implies a fact about the one returned
 pub mapped : {X E : Type 0} {P Q : X → Type 0} (r : Result X E) → ((x : X) → P x → Q x) → IfOk r P → IfOk r Q
 mapped (Ok x) f h = f x h
 mapped (Err e) f h = tt

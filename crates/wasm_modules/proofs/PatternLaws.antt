@@ -1,4 +1,4 @@
--- The laws of patterns, in which a `*` stands for any bytes. All are stated of lists of numbers.
+-- The laws of patterns, in which a `*` stands for any bytes. All are about lists of numbers.
 use Rattle.std.proofs.Common.{◌≡◌, ◌≢◌, ◌∙◌, ◌⊎◌, inl, inr, ℕ, suc, ◌+◌, ◌-◌, ◌<◌, ◌≤◌, Bool, true, false, None, List, [], ◌∷◌, ◌++◌, length, take, drop, get_or, refl, sym, ap, subst, append_assoc, length-append, arith}
 use Rattle.std.specs.Prelude.{MatchBool}
 use Rattle.std.specs.Str.Pattern.{FindsText, FindsTextPrefix, FindsTextSuffix, HasSuffixMatch, SplitsAroundMatch, StripsPrefix}

@@ -27,7 +27,7 @@ use Rattle.wasm_modules.specs.Skipping.{Skips}
 
 -- ---- one value
 
--- a value that stands at a place is the one that is read there, up to these bytes
+-- the format reads this value at the place, up to these bytes
 pub record IsRead {V : Type 0} (F : Format V) (old : Place) (back : List ℕ) (v : V) : Type 0 where
   pub after : Place
   pub read : F.at old ≡ Some (v, after)
@@ -85,7 +85,7 @@ passes_made make of F old new result first prefix back v parts g = first prefix 
 
 -- ---- lists
 
--- the items from this index on stand before these bytes
+-- the items from this index on precede these bytes
 pub record Remaining {V : Type 0} (F : Format V) (left back : List ℕ) (count index : ℕ) : Type 0 where
   pub rest : List V
   pub bytes : List ℕ
@@ -199,7 +199,7 @@ resume_throw_fail old mid new fault first = passes_made (λ p. operands.ResumeTh
 
 -- ---- instructions
 
--- the opcode and the operands of an instruction that stands at a place
+-- the opcode and the operands of the instruction at a place
 record CallAt (old : Place) (back : List ℕ) (i : Instruction) : Type 0 where
   pub operands : Operands
   pub bytes : List ℕ

@@ -178,7 +178,7 @@ placed {B} table held_of second (Some x) = by (second x.1) where
   by None = refl
   by (Some y) = refl
 
--- whose table is told
+-- a segment that names its table
 named : {B : Type 0} (held_of : B → Elements) (second : Reader B) (r : Read ℕ) → in_parts (r >>= λ x. place_at x.0 x.1) (λ p. mapped held_of (second p)) ≡ mapped (λ (p : ℕ × (List Instruction × B)). element (modes.Active p.0 p.1.0) (held_of p.1.1)) (both r (λ p. both (expr.at p) second))
 named held_of second None = refl
 named {B} held_of second (Some x) = placed x.0 held_of second (expr.at x.1) ∙ by (both (expr.at x.1) second) where
@@ -259,12 +259,12 @@ longer_by F p q e =
     let one = is_after F p q e in
     omega (arith, ap (length {A = ℕ}) one.given.written, length-append p.done (F.bytes one.value))
 
--- the number of the form is there
+-- the number of the form was written
 pub number_written : (old start : Rewriting) (number mark : ℕ) → rewritten_at u32 old ≡ Some (number, start) → mark ≡ length old.done → mark < length start.done
 number_written old start number mark e is = let more = longer_by_index old start number e in omega (arith, more, is)
 
--- After it stand the index of a table, an expression, and at a mark the byte of a kind or type, which is taken out, and then
--- the number.
+-- After it are the index of a table, an expression, and at a mark the byte of a kind or type. The rewriter takes out
+-- that byte, and then the number.
 module _ (start mid at end : Rewriting) (table mark kind : ℕ) (there : mark < length start.done) (named : rewritten_at u32 start ≡ Some (table, mid)) (placed : rewriting_after expr mid ≡ Some at) (kind_is : kind ≡ length at.done) where
   beyond : mark + 2 ≤ length at.done
   beyond =
@@ -332,7 +332,7 @@ module _ (old start mid at end : Rewriting) (mark kind : ℕ) (begun : rewritten
       let written = number_cut 2 old start mid at end mark kind 0 indexes two_digit begun named placed mark_is kind_is two.given.written in
       by_another_number element_number element_form old start 2 begun end.place (without mark 1 (without kind 1 end)) (element (modes.Active 0 one.value) (held.Functions two.value)) (rw (z.is_read, one.given.is_read, two.given.is_read) refl) refl refl (written ∙ ap (λ (d : List ℕ). old.done ++ (d ++ (expr.bytes one.value ++ indexes))) (sym zero_digit)) (two.given.rest ∙ one.given.rest ∙ z.rest ∙ g.rest)
 
--- and 4 is put in its place, where the type is the one that isn't told
+-- and 4 replaces the number if the type is `funcref`
 module _ (start mid at typed end : Rewriting) (mark kind : ℕ) (ty : RefType) (named : rewritten_at u32 start ≡ Some (0, mid)) (placed : rewriting_after expr mid ≡ Some at) (told : rewritten_at ref_type at ≡ Some (ty, typed)) (func : true ≡ is_funcref ty) (expressions : rewriting_after (items expr) typed ≡ Some end) (kind_is : kind ≡ length at.done) where
   type_byte : ref_type.bytes funcref ≡ 0x70 ∷ []
   unfolding ref_type abstract_type
@@ -373,7 +373,7 @@ module _ (start mid at typed end : Rewriting) (mark kind : ℕ) (ty : RefType) (
         let read : (element_form 6).at start.place ≡ Some (value funcref, end.place) = rw (z.is_read, one.given.is_read, t.is_read, two.given.is_read) (ap (λ (r : RefType). Some (value r, end.place)) type_is) in
         by_another_number element_number element_form old start 6 begun end.place (with_byte mark 4 (without mark 1 (without kind 1 end))) (value funcref) read refl refl (written ∙ ap (λ (d : List ℕ). old.done ++ (d ++ (expr.bytes one.value ++ initials))) (sym four_digit)) (two.given.rest ∙ t.rest ∙ one.given.rest ∙ z.rest ∙ g.rest)
 
--- all is told of another table or type
+-- a segment of another table or type keeps all of its parts
 pub expressions_kept : (begun start mid at typed end : Rewriting) (table : ℕ) (ty : RefType) → rewritten_at u32 begun ≡ Some (6, start) → rewritten_at u32 start ≡ Some (table, mid) → rewriting_after expr mid ≡ Some at → rewritten_at ref_type at ≡ Some (ty, typed) → rewriting_after (items expr) typed ≡ Some end → eqb table 0 && is_funcref ty ≡ false
     → rewriting_after element_segment begun ≡ Some end
 unfolding element_segment

@@ -84,7 +84,7 @@ whole_module_encoded bytes sections fits e = subst (λ (t : List ℕ). whole_mod
 
 -- ---- the kinds
 
--- after this id stand the size and a body of this format
+-- this id precedes the size and a body of this format
 pub record IsKind {V : Type 0} (id : ℕ) (make : V → ModuleSectionParts) (F : Format V) : Type 0 where
   pub small : id < 256
   pub law : IsLawfulBody F
@@ -150,7 +150,7 @@ tags_kind = record { small = lit≤ tt; law = Lawful-body (Lawful-items tag_is_l
 other : (id n : ℕ) → n < id → (id == n) ≡ false
 other id n lt = ne_eqb id n (λ is. absurd (omega (arith, lt, is)))
 
--- after an unknown id stands no section
+-- no section has an unknown id
 pub unknown_at : {id : ℕ} → 13 < id → (p after : Place) → byte_at p ≡ Some (id, after) → module_section.at p ≡ None
 unfolding module_section
 unknown_at {id} far p after e = rw (e, other id 0 (omega (arith, far)), other id 1 (omega (arith, far)), other id 2 (omega (arith, far)), other id 3 (omega (arith, far)), other id 4 (omega (arith, far)), other id 5 (omega (arith, far)), other id 6 (omega (arith, far)), other id 7 (omega (arith, far)), other id 8 (omega (arith, far)), other id 9 (omega (arith, far)), other id 10 (omega (arith, far)), other id 11 (omega (arith, far)), other id 12 (omega (arith, far)), other id 13 (omega (arith, far))) refl

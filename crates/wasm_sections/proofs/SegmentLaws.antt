@@ -151,7 +151,7 @@ memory_left_out old start mid end mark begun named e at =
     regroup : (d t l c : List ℕ) → ((d ++ t) ++ l) ++ c ≡ d ++ ((t ++ l) ++ c)
     regroup d t l c = simp append_assoc
 
--- its number is there to be cut out
+-- its number was written, so the rewriter can take it out
 pub number_there : (old start mid end : Rewriting) (memory mark : ℕ) → rewritten_at u32 old ≡ Some (2, start) → rewritten_at u32 start ≡ Some (memory, mid) → rewriting_after (expr ⊗ byte_list) mid ≡ Some end → mark ≡ length old.done → mark + 1 ≤ length end.done
 unfolding unsigned_leb128 digits_of
 number_there old start mid end memory mark begun named e at =

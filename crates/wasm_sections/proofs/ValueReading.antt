@@ -1,4 +1,4 @@
--- What is read and rewritten of a value that is all of the bytes.
+-- Reading and rewriting a value that is all of the bytes.
 use Rattle.std.specs.Borrow.{GName}
 use Rattle.std.proofs.Common.{◌≡◌, ℕ, ◌-◌, ◌<◌, ◌≤◌, true, false, List, [], ◌∷◌, ◌++◌, length, Option, Some, None, Ok, Err, refl, sym, ap, subst, ◌∙◌, length-append, inl, inr, arith}
 use Rattle.std.proofs.lemmas.List.{append-nil}
@@ -26,7 +26,7 @@ rewrites_malformed F old new faults.Memory none = none
 rewrites_malformed F old new (faults.Malformed m) none = tt
 
 module _ {V : Type 0} {F : Format V} (r : IsLawful F) where
-  -- what stands first is read
+  -- the first value is read
   first_read : (bytes other after : List ℕ) (v : V) → bytes ≡ other ++ after → F.Encodes other v → F.at (place true bytes) ≡ Some (v, place (keeps true other (F.bytes v)) after)
   first_read bytes other after v e g = ap (λ (l : List ℕ). F.at (place true l)) e ∙ r.reads.complete other v after true g
 

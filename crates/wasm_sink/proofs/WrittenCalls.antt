@@ -1,4 +1,4 @@
--- What is written of a call whose opcode is in the table, and which list an iterator gives.
+-- The bytes of a call whose opcode is in the table, and the list that an iterator gives.
 use Rattle.std.proofs.Common.{rules, ◌≡◌, ◌<◌, ◌≤◌, ◌+◌, ℕ, List, Option, ◌++◌, Some, Ok, refl, sym, ap, append_assoc, ◌∙◌}
 use mathlib.Core.List.{map-id}
 use Rattle.std.specs.Iterator.{Drains}
@@ -51,6 +51,6 @@ emitted s t written op o mid is opcode_is one two same fits in_lists counted no_
 pub emitted_aligned : {Z : Type 0} (s t : InstructionSink Z) (written op : Opcode) (o : Operands) (align : ℕ) (mid : List ℕ) → IsCall op o → written ≡ op → mid ≡ bytes_behind s ++ opcode.bytes written → bytes_behind t ≡ mid ++ (operands_format (kind_of o)).bytes o → t.bytes.ghost_name ≡ s.bytes.ghost_name → NumbersInRange o → ItemsInRange o → HasEncoding o → HasNoLongList o → align < 64 → s.calls ≤ t.calls + 1 → EmitsAligned s op o align (Ok t)
 emitted_aligned s t written op o align mid is opcode_is one two same fits in_lists has no_list below takes = record { wrote = (whole s t written op o mid opcode_is one two, minimal_call op o is fits in_lists has.1, short_call op o is fits in_lists no_list, has); same = same; alignment = search (rules); room = λ has_room aligned. refl; takes = takes }
 
--- the list that comes until the end is the one that the iterator is known to give
+-- the list drained until the end is the one that the iterator is known to give
 pub given : {S A : Type 0} (gives : S → Option A → S → Type 0) (s : S) (xs all : List A) → Drains gives s xs → GivesItems gives s all → xs ≡ all
 given gives s xs all drains yields = sym (map-id xs) ∙ items_from_drains xs (drains.1.0, drains.1.1, λ w. (drains.0, drains.1.2)) yields

@@ -1,4 +1,4 @@
--- Final subtypes whose list of supertypes is there: without any, their byte and the list are left out.
+-- Final subtypes whose list of supertypes is written: if it is empty, their byte and the list are left out.
 use Rattle.std.proofs.Common.{◌≡◌, ℕ, ◌+◌, ◌-◌, ◌≤◌, Bool, true, false, not, ◌&&◌, List, [], ◌∷◌, ◌++◌, length, take, drop, Some, refl, sym, ap, subst, ◌∙◌, append_assoc, length-append, arith}
 use Rattle.std.proofs.lemmas.List.{take_at, drop_at}
 use Rattle.std.specs.List.{flat_map}

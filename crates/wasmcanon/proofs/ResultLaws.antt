@@ -1,4 +1,4 @@
--- What holds of the results of runs, told otherwise.
+-- Facts about the results of runs, in another form.
 use Rattle.std.proofs.Common.{refl, sym, subst, ◌≡◌, ◌∙◌, ℕ, Bool, true, false, List, Option, Some, None, Result, Ok, Err, inl, inr}
 use Rattle.std.proofs.lemmas.Bool.{true≢false}
 use Rattle.std.specs.Global.{Vec}

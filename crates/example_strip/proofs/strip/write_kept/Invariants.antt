@@ -1,4 +1,4 @@
--- What is written so far is a module of the kept sections among those before.
+-- The bytes written so far are a module of the kept sections among those before.
 use Rattle.std.proofs.Common.{take}
 use Rattle.std.specs.Io.KnownBytes.{Appends}
 use Rattle.wasm_encoder.specs.ModuleFormats.{raw_module}

@@ -1,4 +1,4 @@
--- What is read so far is in front of the list.
+-- The bytes read so far are at the start of the list.
 use Rattle.std.proofs.Common.{◌≤◌, vec_len, take}
 use Rattle.std.specs.Io.KnownBytes.{Consumes}
 use Rattle.wasmnorm.proofs.streams.read_all.Given as goal

@@ -1,4 +1,4 @@
--- What is written so far is a prefix of the bytes.
+-- The bytes written so far are a prefix of all.
 use Rattle.std.proofs.Common.{◌-◌, ◌≤◌, length, take}
 use Rattle.std.specs.Io.KnownBytes.{Appends}
 use Rattle.wasmnorm.proofs.streams.write_all.Given as goal
