@@ -9,7 +9,7 @@ use wasm_encoder::{
     ModuleWriter, TypeSection, ValType, WriteError,
 };
 
-/// How often the mix stands in one function: about a thousand bytes.
+/// The number of times that one function has the mix: about a thousand bytes.
 const ROUNDS: u32 = 20;
 
 /// The name of each import, export and custom section.
@@ -23,7 +23,7 @@ const INDEXES: [u32; 16] = [
 /// The bytes of a data segment.
 const BYTES: &[u8] = b"sixteen bytes...";
 
-/// What a module consists of.
+/// The content of a module.
 #[derive(Clone, Copy)]
 pub enum Part {
     /// Functions, whose instructions the sink writes.

@@ -22,7 +22,7 @@ use std::process::ExitCode;
 use std::{env, io};
 use wasm_encoder::{Call, WriteError};
 
-/// What is measured.
+/// The work that is measured.
 #[derive(Clone, Copy)]
 enum Work {
     Read(Form),

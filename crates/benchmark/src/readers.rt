@@ -7,7 +7,7 @@ use wasm_encoder::{
     read_whole_module, rewrite_whole_module,
 };
 
-/// What the bytes are.
+/// The form of the bytes.
 #[derive(Clone, Copy)]
 pub enum Form {
     /// A list of instructions.

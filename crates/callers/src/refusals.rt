@@ -1,4 +1,4 @@
-//! What the numbers in a refusal count.
+//! The parts that the numbers in a refusal count.
 ghost use Rattle.std.specs.Prelude.{ℕ, IfSome, drop};
 ghost use Rattle.wasm_codec.specs.formats.Numbers.{EncodesU32};
 ghost use Rattle.wasm_encoder.specs.Lists.{HasItemsBefore};

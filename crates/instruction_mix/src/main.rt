@@ -18,10 +18,10 @@ use std::process::ExitCode;
 use std::{env, io};
 use wasm_encoder::EncodeError;
 
-/// How often its instructions stand in one body.
+/// The number of times that one body has its instructions.
 const ROUNDS: u32 = 1000;
 
-/// What a body is made of.
+/// The content of a body.
 #[derive(Clone, Copy)]
 enum Made {
     Mix,

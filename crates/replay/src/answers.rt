@@ -40,8 +40,8 @@ fn check_normal(alloc: Global, what: &str, input: &[u8], normal: &[u8]) -> Resul
     }
 }
 
-/// Calls that are read are written as the normal form, also where requests for memory are refused. Of a long one those
-/// would be too many.
+/// Checks that the calls read are written as the normal form, also if requests for memory are refused. A long input
+/// would need too many refusals.
 fn check_calls(alloc: Global, what: &str, input: &[u8], normal: &[u8]) -> Result<(), Mismatch> {
     if what != "calls" {
         return Ok(());

@@ -14,7 +14,7 @@ pub type Count = Result<usize, usize>;
 /// The normal form that a normaliser gives, or where it refuses the bytes.
 pub type Normal = Result<Vec<u8>, usize>;
 
-/// What a reader returns: a list, or one value.
+/// The result of a reader: a list, or one value.
 pub trait Counted: Drop {
     /// Returns the number of items.
     fn count(&self) -> usize;
@@ -56,7 +56,7 @@ impl<'a> Counted for CoreDumpStack<'a> {
     }
 }
 
-/// What a reader answered.
+/// Returns the number of items that a reader gave, or the offset at which it refused the bytes.
 pub fn count<T: Counted>(answer: Result<T, ReadError>) -> Result<Count, Mismatch> {
     match answer {
         Ok(items) => Ok(Ok(items.count())),
@@ -65,7 +65,7 @@ pub fn count<T: Counted>(answer: Result<T, ReadError>) -> Result<Count, Mismatch
     }
 }
 
-/// What the reader answers.
+/// Runs the reader. Returns the number of items, or the offset at which it refuses the bytes.
 pub fn count_of<'a, T: Decode<'a>>(alloc: Global, body: &'a [u8]) -> Result<Count, Mismatch>
 where
     T::Output: Counted,
@@ -73,7 +73,7 @@ where
     count(without_reason(read::<T>(alloc, body)))
 }
 
-/// What the strict reader answers. The check accepts the same bytes, and refuses the others at the same offset.
+/// Runs the strict reader. Checks that `check` accepts the same bytes, and refuses the others at the same offset.
 pub fn strict_of<'a, T: Decode<'a>>(alloc: Global, body: &'a [u8]) -> Result<Count, Mismatch>
 where
     T::Output: Counted,
@@ -97,8 +97,8 @@ fn is_checked<'a, T: Decode<'a>>(
     }
 }
 
-/// What the normaliser answers. Rewriting a copy of the bytes in place gives the same, and the reader refuses them for
-/// the same reason.
+/// Runs the normaliser. Checks that rewriting a copy of the bytes in place gives the same, and that the reader refuses
+/// them for the same reason.
 pub fn normal_of<'a, T: Decode<'a>>(alloc: Global, body: &'a [u8]) -> Result<Normal, Mismatch> {
     let refused = refusal_by::<T>(alloc, body)?;
     let rewritten = rewrite::<T>(Vec::from_slice(alloc, body)?);
@@ -126,7 +126,7 @@ pub fn refusal_of<T>(answer: &Result<T, DecodeError>) -> Result<Option<Refusal>,
     }
 }
 
-/// What a normaliser answers, if it is this.
+/// Checks that a normaliser answered `normal`, and returns it.
 pub fn same_normal(answer: Result<Vec<u8>, ReadError>, normal: Normal) -> Result<Normal, Mismatch> {
     if is_same(&placed(answer)?, &normal) {
         Ok(normal)

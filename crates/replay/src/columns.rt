@@ -19,7 +19,7 @@ pub fn columns(line: &str) -> Result<(&str, &str, &str), Mismatch> {
     Ok((first, second, third))
 }
 
-/// The value that a token stands for, as in `u32:7`.
+/// Reads the value that a token stands for, as in `u32:7`.
 pub fn parse_token(text: &str) -> Result<Token, Mismatch> {
     parse(text).ok_or(Mismatch::NotUnderstood)
 }

@@ -24,8 +24,8 @@ pub fn check(alloc: Global, line: &str) -> Result<(), Mismatch> {
     }
 }
 
-/// The contents are answered by this number of items and normal form, which the builder writes too. Each part of a list is
-/// refused.
+/// Checks that the contents have this number of items and normal form, which the builder writes too. Each part of a
+/// list must be refused.
 fn check_taken(
     alloc: Global,
     section: &str,

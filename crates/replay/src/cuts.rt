@@ -16,7 +16,7 @@ use wasm_encoder::{
     read_type_section_strict,
 };
 
-/// What readers answer to the same bytes: how many items, or where they refuse the bytes.
+/// The answers of readers to the same bytes: the number of items, or the offset at which they refuse the bytes.
 #[derive(Clone, Copy)]
 struct Answers {
     wide: Count,
@@ -33,8 +33,8 @@ pub fn check(alloc: Global, line: &str) -> Result<(), Mismatch> {
     check_cuts(alloc, what, input.as_slice(), ends.as_slice(), longer)
 }
 
-/// Where the parts of the bytes end: each call, the count of a list and each of its items, the header of a module and
-/// each section. There is `-` if there are none.
+/// Reads the ends of the parts of the bytes: each call, the count of a list and each of its items, the header of a
+/// module and each section. The column is `-` if they have none.
 fn parse_ends(alloc: Global, column: &str) -> Result<Vec<usize>, Mismatch> {
     let mut ends = Vec::new(alloc);
     if column == "-" {
@@ -67,7 +67,7 @@ fn check_cuts(
     Ok(())
 }
 
-/// What is cut before the last end is refused because it ends.
+/// Checks that bytes cut before the last end are refused because they end.
 fn check_reason(alloc: Global, what: &str, cut: &[u8], ends: &[usize]) -> Result<(), Mismatch> {
     match ends.last() {
         Some(end) if cut.len() < *end => {}
@@ -90,8 +90,8 @@ fn check_end(reason: Reason, offset: usize, len: usize) -> Result<(), Mismatch> 
     }
 }
 
-/// What is to be answered to so many of the bytes. The strict reader refuses a longer part where it begins, once it is
-/// whole.
+/// Returns the expected answers to the first `size` bytes. The strict reader refuses a longer part at its start, once
+/// the part is complete.
 fn expected_answers(what: &str, ends: &[usize], size: usize, longer: Option<usize>) -> Answers {
     let (parts, last) = whole_parts(ends, size);
     let wide = if last == size && is_list(what, parts, ends.len()) {
@@ -159,7 +159,7 @@ fn check_readers(alloc: Global, what: &str, cut: &[u8], expected: Answers) -> Re
     }
 }
 
-/// What is read comes one after another, at the ends of the parts before, and is refused as a whole list is.
+/// Checks that iterators give items at the ends of the parts before, and refuse the bytes as readers of a list do.
 fn check_one_by_one(
     alloc: Global,
     what: &str,
@@ -246,7 +246,7 @@ fn check_answers(
     }
 }
 
-/// The normaliser takes the bytes or refuses them as the reader does. Of sections alone there is no normal form.
+/// Checks that the normaliser takes or refuses the bytes as the reader does. Sections alone have no normal form.
 fn check_normaliser(
     alloc: Global,
     what: &str,

@@ -18,7 +18,7 @@ pub fn check(alloc: Global, line: &str) -> Result<(), Mismatch> {
     check_answer(alloc, section, body.as_slice(), answer)
 }
 
-/// The bytes are answered so.
+/// Checks that the calls answer so to the bytes.
 fn check_answer(alloc: Global, section: &str, body: &[u8], answer: &str) -> Result<(), Mismatch> {
     if section == "order" {
         return check_order_of(alloc, body, answer);
@@ -30,7 +30,7 @@ fn check_answer(alloc: Global, section: &str, body: &[u8], answer: &str) -> Resu
     }
 }
 
-/// The bytes are answered by this number of items and normal form.
+/// Checks that the bytes have this number of items and normal form.
 fn check_taken(alloc: Global, section: &str, body: &[u8], expected: &str) -> Result<(), Mismatch> {
     let (count, normal) = expected.split_once(' ').ok_or(Mismatch::NotUnderstood)?;
     let count: usize = count.parse().ok().ok_or(Mismatch::NotUnderstood)?;
@@ -41,7 +41,7 @@ fn check_taken(alloc: Global, section: &str, body: &[u8], expected: &str) -> Res
     check_body(alloc, section, body, normal.as_slice(), count)
 }
 
-/// The body is answered so, each part of it is refused, and so is the module of that section answered.
+/// Checks that the calls answer so to the body and to the module of that section, and refuse each part of the body.
 fn check_body(
     alloc: Global,
     section: &str,

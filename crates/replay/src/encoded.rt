@@ -55,7 +55,7 @@ pub fn encode<A: Allocator>(
     }
 }
 
-/// Encodes what a token stands for, if it does.
+/// Encodes the value of a token. Fails with `NotUnderstood` if it has none.
 fn encode_known<T: Encode + Drop, A: Allocator>(
     value: Option<T>,
     bytes: &mut Vec<u8, A>,
@@ -122,7 +122,7 @@ fn encode_operand<A: Allocator>(token: &str, bytes: &mut Vec<u8, A>) -> Result<(
     }
 }
 
-/// Encodes a value that is there, where another may be missing.
+/// Encodes the value of a token as a `Some`.
 fn encode_some<A: Allocator>(token: &str, bytes: &mut Vec<u8, A>) -> Result<(), Mismatch> {
     match token.split_once(':') {
         Some(("val", text)) => encode_known(val_type(text).map(Some), bytes),
@@ -140,17 +140,17 @@ fn encode_number<A: Allocator>(token: &str, bytes: &mut Vec<u8, A>) -> Result<()
     }
 }
 
-/// The value type that a token stands for.
+/// Reads the value type that a token stands for.
 fn value_type(token: &str) -> Option<ValType> {
     val_type(token.strip_prefix("val:")?)
 }
 
-/// The reference type that a token stands for.
+/// Reads the reference type that a token stands for.
 fn reference_type(token: &str) -> Option<RefType> {
     ref_type(token.strip_prefix("ref:")?)
 }
 
-/// The number that a token stands for.
+/// Reads the number that a token stands for.
 fn number(token: &str) -> Option<Token> {
     parse_token(token).ok()
 }

@@ -180,7 +180,7 @@ fn group(alloc: Global, words: &mut Words<'_>) -> Result<Vec<SubType>, Mismatch>
     Ok(types)
 }
 
-/// `sub`, what stands before a composite type, and what it is made of.
+/// Reads `sub`, the parts before a composite type, and its inner type.
 fn sub_type(alloc: Global, words: &mut Words<'_>) -> Result<SubType, Mismatch> {
     if words.next()? != "sub" {
         return Err(Mismatch::NotUnderstood);
@@ -211,7 +211,7 @@ fn optional_index(text: &str) -> Option<Option<u32>> {
     }
 }
 
-/// What a composite type is made of, by its name or that of a call.
+/// Reads the inner type of a composite type, by its name or that of a call.
 fn inner_type(
     alloc: Global,
     name: &str,

@@ -62,7 +62,7 @@ pub enum Mismatch {
     /// A part of the bytes is taken, or refused elsewhere by the normaliser than by the reader.
     #[error("a part is answered otherwise")]
     Cut,
-    /// Whether the sections come in order is answered otherwise.
+    /// `check_order` or `find_order_error` answers otherwise.
     #[error("the order is answered otherwise")]
     Order,
 }

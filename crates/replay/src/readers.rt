@@ -11,7 +11,7 @@ use wasm_encoder::{
     normalise_module, normalise_type_section, rewrite_module,
 };
 
-/// What the reader answers.
+/// Runs the reader.
 pub fn read(alloc: Global, what: &str, input: &[u8]) -> Result<Count, Mismatch> {
     match what {
         "calls" => count_of::<Instructions>(alloc, input),
@@ -33,7 +33,7 @@ pub fn refusal(alloc: Global, what: &str, input: &[u8]) -> Result<Option<Refusal
     }
 }
 
-/// What the strict reader and the check answer.
+/// Runs the strict reader and the check.
 pub fn read_strictly(alloc: Global, what: &str, input: &[u8]) -> Result<Count, Mismatch> {
     match what {
         "calls" => strict_of::<Instructions>(alloc, input),
@@ -44,7 +44,7 @@ pub fn read_strictly(alloc: Global, what: &str, input: &[u8]) -> Result<Count, M
     }
 }
 
-/// What the normalisers answer, by their own names and by the type, into new memory and in place.
+/// Runs the normalisers, by their own names and by the type, into new memory and in place.
 pub fn normalise(alloc: Global, what: &str, input: &[u8]) -> Result<Normal, Mismatch> {
     match what {
         "calls" => same_normal(
@@ -63,7 +63,7 @@ pub fn normalise(alloc: Global, what: &str, input: &[u8]) -> Result<Normal, Mism
     }
 }
 
-/// What the normaliser of a module, of its type section and of its code section answers. It rewrites more than that of
+/// Runs the normaliser of a module, of its type section and of its code section. It rewrites more than that of
 /// `Module`, which is for sizes alone.
 fn normal_of_module(alloc: Global, input: &[u8]) -> Result<Normal, Mismatch> {
     let copy = Vec::from_slice(alloc, input)?;

@@ -123,7 +123,7 @@ fn one_operand(alloc: Global, only: Argument) -> Result<Operands, Mismatch> {
     })
 }
 
-/// Of four methods the second parameter is written first.
+/// Returns two operands. Four methods write the second parameter first.
 fn two_operands(method: &str, first: Argument, second: Argument) -> Result<Operands, Mismatch> {
     Ok(match (first, second) {
         (Argument::U32(first), Argument::U32(second)) => match method {

@@ -1,4 +1,4 @@
-//! What the vectors of a file are of, and what holds the library to them.
+//! The kinds of vectors in a file, and the checks of the library against them.
 
 use crate::mismatch::Mismatch;
 use crate::{
@@ -13,19 +13,19 @@ pub enum Suite {
     Sink,
     /// One encoded value, entry, section or module each.
     Types,
-    /// What a normaliser answers to some bytes.
+    /// The answers of a normaliser to some bytes.
     Answers,
-    /// What a strict reader answers to some bytes.
+    /// The answers of a strict reader to some bytes.
     Strict,
-    /// What readers and normalisers answer to some bytes and to each part of them.
+    /// The answers of readers and normalisers to some bytes and to each part of them.
     Cuts,
     /// The kind of an opcode.
     Kinds,
-    /// What is read of the body of a section, or of a module with every section decoded.
+    /// The values read from the body of a section, or from a module with every section decoded.
     Decoded,
-    /// What is read of the contents of a custom section.
+    /// The values read from the contents of a custom section.
     Contents,
-    /// Why and where some bytes are refused.
+    /// The reason and the place of a refusal.
     Refusals,
 }
 

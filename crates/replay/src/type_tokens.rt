@@ -1,4 +1,4 @@
-//! The tokens that stand for types, as `val:ref:1:abs:0:func`. A function is given what stands after the first colon.
+//! The tokens that stand for types, as `val:ref:1:abs:0:func`. A function takes the text after the first colon.
 
 use wasm_encoder::{AbstractHeapType, FieldType, HeapType, RefType, StorageType, ValType};
 

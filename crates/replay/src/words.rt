@@ -24,7 +24,7 @@ impl<'a> Words<'a> {
         Ok(*word)
     }
 
-    /// What stands after this key and a colon in the next word.
+    /// Returns the text after this key and a colon in the next word.
     pub fn value(&mut self, key: &str) -> Result<&'a str, Mismatch> {
         match self.next()?.split_once(':') {
             Some((name, value)) if name == key => Ok(value),
@@ -32,7 +32,7 @@ impl<'a> Words<'a> {
         }
     }
 
-    /// What is read from a word of this key.
+    /// Reads a value from a word of this key.
     pub fn read<T, Read: Fn(&str) -> Option<T>>(
         &mut self,
         key: &str,

@@ -1,4 +1,4 @@
-//! What is written to lists of bytes, also where requests for memory are refused.
+//! Values and calls written to lists of bytes, also if requests for memory are refused.
 
 use crate::encoded::encode;
 use crate::mismatch::Mismatch;
@@ -7,10 +7,10 @@ use rationed::Rationed;
 use std::alloc::{Allocator, Global};
 use wasm_encoder::{Call, Encode, EncodeError, InstructionSink, RawSection, Section};
 
-/// What is written to a list.
+/// A value or calls to write to a list.
 #[derive(Clone, Copy)]
 pub enum Written<'a> {
-    /// What the sink's method of this name writes, with the operands that the tokens stand for.
+    /// The call that the sink's method of this name writes, with the operands that the tokens stand for.
     Method(&'a str, &'a str),
     /// A call.
     Call(&'a Call),

@@ -91,7 +91,7 @@ pub record Checks {V : Type 0} (F : Format V) (Minimal : Grammar V) (IsPrefix : 
   -- Bytes are the minimal encoding of a value if and only if they encode it and are as it is written.
   pub minimal : (value : V) → Minimal bytes value ↔ (F.Encodes bytes value × (bytes ≡ F.bytes value))
 
--- What a call promises that rewrites bytes to their minimal encoding. `encoding` is where its result has it.
+-- What a call promises that rewrites bytes to their minimal encoding. `encoding` gets it from the result.
 pub record NormalisesTo {X V : Type 0} (F : Format V) (IsPrefix : List ℕ → Type 0) (bytes : List ℕ) (encoding : X → List ℕ) (result : Result X ReadError) : Type 0 where
   -- It returns the minimal encoding of a value that the bytes encode.
   pub given : IfOk result (λ x. IsNormalForm F.Encodes F.bytes bytes (encoding x))

@@ -28,7 +28,7 @@ fn expressions_from_their_bytes(rt: HostRuntime) -> Result<(), Fail> {
     is_read(rt.alloc(), b"\x41\x10\xff", 0, Some(2))
 }
 
-/// A subsection comes once, after those of lower ids.
+/// A name section has each subsection once, after those of lower ids.
 #[test]
 fn names_out_of_order(rt: HostRuntime) -> Result<(), Fail> {
     let map = NameMap::new(rt.alloc());

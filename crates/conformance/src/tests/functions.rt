@@ -123,7 +123,7 @@ fn is_of_types(alloc: Global, types: &[ValType], hex: &str) -> Result<(), Fail> 
     is_encoded(alloc, &function, hex)
 }
 
-/// Equal types are a group if nothing stands between them.
+/// Equal types are a group if no other type is between them.
 #[test]
 fn locals_by_their_types(rt: HostRuntime) -> Result<(), Fail> {
     let mixed = [ValType::I32, ValType::I32, ValType::F64, ValType::I32];

@@ -46,7 +46,8 @@ fn telling<T: Drop>(items: Vec<T>, more: usize, asked: &Cell<u32>) -> Told<'_, T
     Told { items, told, asked }
 }
 
-/// How many labels came, how many more were told of, and the opcode with the count of those that came.
+/// Counts the labels that the iterator gave, not those that it announced besides. A case has both numbers, and the
+/// opcode with the count.
 #[test]
 fn the_labels_that_come_are_counted(rt: HostRuntime) -> Result<(), Fail> {
     for (came, more, head) in [
@@ -82,7 +83,7 @@ fn writes_labels(alloc: Global, came: usize, more: usize, head: &str) -> Result<
     is(alloc, rest.unwrap_or(&[]), "090B")
 }
 
-/// How many items came, how many more were told of, and the count of those that came.
+/// Counts the items that the iterator gave, not those that it announced besides. A case has both numbers and the count.
 #[test]
 fn the_types_that_come_are_counted(rt: HostRuntime) -> Result<(), Fail> {
     for (came, more, count) in [
@@ -199,7 +200,7 @@ fn one_entry(alloc: Global) -> Result<TypeSection, Fail> {
     Ok(types)
 }
 
-/// What is too long is refused before an item is asked for, and the section is as it was.
+/// A section refuses a list that is too long before it asks for an item, and stays as it was.
 #[test]
 fn too_many_are_refused_before_one_is_asked_for(rt: HostRuntime) -> Result<(), Fail> {
     for more in [4294967296, 5000000000] {

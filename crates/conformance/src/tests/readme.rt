@@ -1,4 +1,4 @@
-//! The example of the README, as it stands there.
+//! The example of the README, word for word.
 
 use super::is;
 use std::alloc::Global;

@@ -1,4 +1,4 @@
-//! What reasons and refusals say.
+//! The texts of reasons and refusals.
 
 use std::alloc::Global;
 use std::test::Fail;

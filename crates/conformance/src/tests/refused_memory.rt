@@ -13,7 +13,7 @@ use std::process::Abort;
 use std::test::Fail;
 use wasm_encoder::{Call, EncodeError, Opcode, Operands, Prefix};
 
-/// What a call makes, which is called again where memory was refused.
+/// Returns the result of a call, after a second call if the first was refused memory.
 fn made_again<T, Make: Fn() -> Result<T, EncodeError>>(
     rt: &impl Print,
     make: Make,

@@ -38,7 +38,7 @@ fn a_copy_is_equal_and_apart(rt: HostRuntime) -> Result<(), Fail> {
     is_section(rt.alloc(), &types, 2, "07025DC0005E7701")
 }
 
-/// What is too long is refused before an item is asked for, and the section is as it was.
+/// A section refuses a list that is too long before it asks for an item, and stays as it was.
 #[test]
 fn too_many_parameters(rt: HostRuntime) -> Result<(), Fail> {
     let mut types = TypeSection::new(rt.alloc());

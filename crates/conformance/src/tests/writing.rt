@@ -1,4 +1,4 @@
-//! What is written by chains of the sink's methods and by encoded numbers, and the texts of errors.
+//! The bytes that chains of the sink's methods and encoded numbers write, and the texts of errors.
 
 use super::{is, is_refused};
 use std::test::Fail;

@@ -66,7 +66,7 @@ pub(super) fn module_of_all(alloc: Global, padded: bool) -> Result<Vec<u8>, Fail
     Ok(bytes)
 }
 
-/// What is read from the module is written as the minimal one.
+/// Checks that the sections read from the module, and the normaliser, give the minimal module.
 fn is_written_as(alloc: Global, module: &[u8], minimal: &[u8]) -> Result<(), Fail> {
     let sections = read_whole_module(alloc, module)?;
     let built = Module::from_sections(alloc, &sections)?;

@@ -50,7 +50,7 @@ const ROWS: [(Option<IndexSpace>, &str, &str); 13] = [
     ),
     // a tag is `t`; its index padded
     (Some(IndexSpace::Tags), "0B0401020174", "0B050182000174"),
-    // two bytes that an unknown id stands before; their number padded
+    // two bytes after an unknown id; their number padded
     (None, "0C02ABCD", "0C8200ABCD"),
 ];
 

@@ -11,7 +11,7 @@ use wasm_encoder::{
     WholeModule,
 };
 
-/// What the calls answer to some bytes.
+/// The answers of the calls to some bytes.
 #[derive(Drop)]
 pub struct Answers {
     /// How many items the reader gives, or where it refuses the bytes.

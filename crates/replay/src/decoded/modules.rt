@@ -89,7 +89,7 @@ fn check_beginning(answers: &Answers, normal: &[u8]) -> Result<(), Mismatch> {
     }
 }
 
-/// What `check_order` answers of the module's sections is this text, and so is what `find_order_error` finds.
+/// Checks that `check_order` of the module's sections answers this text, and `find_order_error` too.
 pub fn check_order_of(alloc: Global, module: &[u8], answer: &str) -> Result<(), Mismatch> {
     let sections = match read_whole_module(alloc, module) {
         Ok(sections) => sections,
@@ -107,7 +107,7 @@ pub fn check_order_of(alloc: Global, module: &[u8], answer: &str) -> Result<(), 
     }
 }
 
-/// What `find_order_error` finds in the module is this text.
+/// Checks that `find_order_error` answers this text.
 fn check_encoded_order(alloc: Global, module: &[u8], answer: &str) -> Result<(), Mismatch> {
     let told = match find_order_error(alloc, module)? {
         None => format!(in alloc; "ok"),

@@ -26,7 +26,7 @@ pub enum Argument {
     Block(BlockType),
 }
 
-/// The operands that the tokens of a column stand for. A space splits them.
+/// Reads the operands that the tokens of a column stand for. A space splits them.
 pub fn arguments(alloc: Global, column: &str) -> Result<Vec<Argument>, Mismatch> {
     let mut arguments = Vec::new(alloc);
     if column.is_empty() {
@@ -38,7 +38,7 @@ pub fn arguments(alloc: Global, column: &str) -> Result<Vec<Argument>, Mismatch>
     Ok(arguments)
 }
 
-/// The operand that a token stands for.
+/// Reads the operand that a token stands for.
 pub fn parse_argument(token: &str) -> Option<Argument> {
     let (kind, value) = token.split_once(':')?;
     Some(match kind {

@@ -4,7 +4,7 @@ use crate::sink::arguments::Argument;
 use std::alloc::Allocator;
 use wasm_encoder::{EncodeError, InstructionSink};
 
-/// Whether this method is called. Of every other method the contract says which call it appends, and
+/// Returns whether this method is called. The contract of every other method says which call it appends, and
 /// `scripts/gate opcodes` compares its opcode with the vectors.
 pub(crate) fn is_called(method: &str) -> bool {
     METHODS.contains(&method)

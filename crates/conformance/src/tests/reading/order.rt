@@ -92,7 +92,7 @@ fn field(element_type: StorageType, mutable: bool) -> FieldType {
     }
 }
 
-/// What a field holds decides before whether it can be written.
+/// The storage type of a field decides first, then its mutability.
 #[test]
 fn fields_ascend() -> Result<(), Fail> {
     let fields = [

@@ -1,4 +1,4 @@
-//! What is asked of types, and their order.
+//! The questions that types answer, and their order.
 
 use wasm_encoder::{AbstractHeapType, HeapType, RefType, StorageType, ValType};
 
@@ -19,7 +19,7 @@ fn predicates(rt: HostRuntime) {
     assert!(rt; ValType::FUNCREF.is_reference() && ValType::FUNCREF.is_defaultable());
 }
 
-/// The order is that of the declarations, and false comes before true.
+/// The order is that of the declarations, and false is less than true.
 #[test]
 fn order(rt: HostRuntime) {
     assert!(rt; ValType::V128 < ValType::FUNCREF);
