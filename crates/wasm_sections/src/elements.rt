@@ -510,11 +510,7 @@ fn append_functions<A: Allocator>(
     functions: &[u32],
     sink: &mut Vec<u8, A>,
 ) -> Result<(), EncodeError>
-    ensures ok { OnOk result (sink.new.items ≡ sink.old.items ++ elements_bytes short (held.Functions functions.now)) }
-    ensures can { OnOk result (AreCounted (held.Functions functions.now)) }
-    ensures fits { OnOk result (ElementsFit short (held.Functions functions.now)) }
-    ensures refused { IfErr result (IsRefusal (λ fs. AreCounted (held.Functions fs)) OnlyTooLong functions.now) }
-    ensures kept { take (length sink.old.items) sink.new.items ≡ sink.old.items }
+    ensures { Appends (elements_bytes short (held.Functions functions.now)) (AreCounted (held.Functions functions.now)) (ElementsFit short (held.Functions functions.now)) sink.old.items sink.new.items result }
 {
     if short {
         encode_list(functions, sink)
@@ -646,12 +642,7 @@ fn append_active_functions<A: Allocator>(
     segment: &ActiveFunctions<'_>,
     sink: &mut Vec<u8, A>,
 ) -> Result<(), EncodeError>
-    ensures ok { OnOk result (sink.new.items ≡ sink.old.items ++ element_segment.bytes (active_functions segment.now)) }
-    ensures can { OnOk result (IsCountedElement (active_functions segment.now)) }
-    ensures written { OnOk result (IsClosedElement (active_functions segment.now) →
-        IsMinimal element_segment.Encodes element_segment.bytes (active_functions segment.now)) }
-    ensures refused { IfErr result (IsRefusal (λ e. IsCountedElement (active_functions e)) OnlyTooLong segment.now) }
-    ensures kept { take (length sink.old.items) sink.new.items ≡ sink.old.items }
+    ensures { AppendsIfClosed element_segment (active_functions segment.now) (IsCountedElement (active_functions segment.now)) (IsClosedElement (active_functions segment.now)) sink.old.items sink.new.items result }
 {
     let form = number_of_functions(segment.table_index);
     append_active_mode(form, segment.table_index, segment.offset, sink)?;
@@ -717,7 +708,7 @@ impl ListSection<Element> {
         })
     }
 
-    /// Adds an active segment of these function indices, as [`active`](ListSection::active) with
+    /// Adds an active segment of these function indices, as `active` with
     /// [`Elements::functions`] does. Allocates no list for them.
     ///
     /// # Examples
