@@ -37,7 +37,7 @@ CountsSections F bytes refusal = IfSome refusal.section (λ place. HasSectionsBe
 abbrev pub HasNoHeader : List ℕ → Type 0
 HasNoHeader bytes = (rest : List ℕ) → bytes ≡ header ++ rest → ⊥
 
--- The reader gives the sections of a module, with their offsets. If `strict`, each size is minimally encoded.
+-- The reader gives the sections of a module, with their offsets; if `strict`, each size is minimally encoded.
 pub record GivesSections (strict : Bool) (bytes : List ℕ) (reader : Reading) : Type 0 where
   -- The bytes after the header.
   pub sections : List ℕ

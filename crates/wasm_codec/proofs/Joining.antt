@@ -63,7 +63,7 @@ Joined-split {V} {G} r some a b x y (v ∷ vs) (w ∷ ws) g h e le =
       encodes = rest.encodes;
     }
 
--- an encoding is next if the list has more items
+-- if the bytes begin with more items, the next one can be read
 pub next : {V : Type 0} {G : Grammar V} {read : PlainReader V} → IsReadBy G read → (back y : List ℕ) (more : List V) → Joined G back more → 0 < length back → read (back ++ y) ≡ None → ⊥
 next r back y [] g some none = absurd (omega (arith, ap (length {A = ℕ}) g))
 next {read = read} r back y (v ∷ more) g some none =

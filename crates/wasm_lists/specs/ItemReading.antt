@@ -134,7 +134,7 @@ pub record EncodesNoList {V : Type 0} (strict : Bool) (F : Format V) (start : �
   pub longest : IsLongestPrefix (IsListPrefixMinimalIf strict F) bytes (at - start)
   pub none : (values : List V) → ListMinimalIf strict F bytes values → ⊥
 
--- The items given tell which list the bytes encode, however many calls the caller makes. The bytes begin at `offset`.
+-- The items given tell which list these bytes at an offset encode, however many calls the caller makes.
 pub record GivesList {X V : Type 0} (view : X → V) (F : Format V) (offset : ℕ) (bytes : List ℕ) (start : Reading) : Type 0 where
   -- The number of items.
   pub count : ℕ

@@ -112,7 +112,7 @@ done_fails : (result : Result (Option ItemCounts) Fault) → FailsMalformed resu
 done_fails (Ok x) bad = absurd bad
 done_fails (Err fault) bad = bad
 
--- a section needs an id
+-- if the id can't be read, no section can
 pub no_section : (old new : Rewriting) (fault : Fault) → Gives a_byte old new (Err fault) → Rewrites module_section old new (Err fault)
 unfolding module_section
 no_section old new faults.Memory none = none

@@ -128,7 +128,7 @@ op_names_none bytes op (inr (inr (inr (inr g)))) none = subst (λ (o : Opcode). 
 
 -- ---- instructions
 
--- an instruction whose bytes have no such prefix names no data, since its opcode is first
+-- an instruction names no data if no such opcode begins in its bytes, since its own is first
 call_names_none : (bytes : List ℕ) (i : Instruction) → instruction.Encodes bytes i → NoneIn bytes → names_data i ≡ false
 unfolding instruction
 call_names_none bytes i g none =

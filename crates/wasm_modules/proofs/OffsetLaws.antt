@@ -10,7 +10,7 @@ use Rattle.wasm_modules.specs.Offsets.{BeginsWith}
 
 -- ---- the beginning of a name
 
--- a search for a beginning finds it and returns the rest of the name, or finds that the name has another
+-- the result is the rest of the name after this beginning, or none if the name doesn't begin so
 abbrev pub Stripped : {X : Type 0} → (X → List ℕ) → List ℕ → List ℕ → Option X → Type 0
 Stripped now beginning name r = MatchOption r (pointwise eqb (take (length beginning) name) beginning ≡ false) (λ x. (pointwise eqb (take (length beginning) name) beginning ≡ true) × (now x ≡ drop (length beginning) name) × (length (now x) + length beginning ≡ length name))
 

@@ -63,7 +63,7 @@ IsClosedContent section = Unit {0}
 abbrev pub IsWrittenContent : ModuleSectionParts → Type 0
 IsWrittenContent section = IsSectionAfter (section_id section) (content_bytes section) section
 
--- A section was written. Each of two conditions makes the bytes its minimal encoding.
+-- The bytes written are the section's minimal encoding if one of two conditions holds.
 pub record WrittenContent (section : ModuleSection) : Type 0 where
   -- If its expressions close their blocks, the minimal encoding of the section was written.
   pub closed : IsClosedContent section → IsWrittenContent (module_section_parts section)
