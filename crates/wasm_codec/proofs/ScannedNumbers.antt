@@ -80,7 +80,7 @@ magnitude_last turn (a ∷ front) b =
     let q : (complemented turn (b % 128) + 1) * (128 * 128 ^ length front) ≡ 128 * times = mul_left_comm (complemented turn (b % 128) + 1) 128 (128 ^ length front) in
     rw (p, q) (omega (arith, d, again))
 
--- a last digit that isn't zero makes the number at least 128 to the number of digits before
+-- if the last digit, complemented or not, isn't zero, the number is at least 128 to the number of digits before
 magnitude_from : (turn : Bool) (front : List ℕ) (b : ℕ) → 0 < complemented turn (b % 128) → 128 ^ length front ≤ magnitude turn (front ++ b ∷ [])
 unfolding magnitude
 magnitude_from turn [] b some = omega arith
