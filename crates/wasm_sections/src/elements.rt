@@ -510,7 +510,7 @@ fn append_functions<A: Allocator>(
     functions: &[u32],
     sink: &mut Vec<u8, A>,
 ) -> Result<(), EncodeError>
-    ensures { Appends (elements_bytes short (held.Functions functions.now)) (AreCounted (held.Functions functions.now)) (ElementsFit short (held.Functions functions.now)) sink.old.items sink.new.items result }
+    ensures { Appends (elements_bytes short (held.Functions functions.now)) (AreCounted (held.Functions functions.now)) (AreClosed (held.Functions functions.now) → ElementsFit short (held.Functions functions.now)) sink.old.items sink.new.items result }
 {
     if short {
         encode_list(functions, sink)
