@@ -8,9 +8,12 @@ ghost use Rattle.wasm_codec.specs.declared.encode.EncodeError.{EncodeError};
 mod iterators;
 mod lists;
 mod pairs;
+mod short;
 
 pub use iterators::append_items;
 pub use lists::{append_each, encode_bytes, encode_list, encode_list_after, encode_str};
+pub use short::EncodeShort;
+pub(crate) use short::append_short_items;
 use std::alloc::Allocator;
 pub use wasm_codec::encode::EncodeError;
 use wasm_codec::encode::keep_or_undo;

@@ -7,7 +7,7 @@ ghost use Rattle.wasm_codec.specs.Lists.{items_bytes};
 ghost use Rattle.wasm_codec.specs.declared.encode.EncodeError.TheVariants.{Memory, TooLong};
 ghost use Rattle.wasm_lists.specs.EncodedLists.{EncodedItems, CountedSection, IsFull, IsMemoryOrTooLong, IsRefusalOfOne, IsRefusalOfEach, OfItems, body_bytes};
 
-use crate::encode::{Encode, append_each, append_items};
+use crate::encode::{Encode, EncodeShort, append_each, append_items, append_short_items};
 use std::alloc::{Allocator, Global};
 use std::marker::Model;
 use wasm_codec::encode::leb128::{put_u32, u32_len};
@@ -172,7 +172,7 @@ impl EncodedList {
     /// Fails with `TooLong` if the list already has 4,294,967,295 values or a `len` is over 4,294,967,295, before it
     /// asks for an item of either, and with any error of an item.
     pub fn add_tagged_pair<
-        T: Encode + Drop,
+        T: EncodeShort + Drop,
         I: ExactSizeIterator<Item = T>,
         J: ExactSizeIterator<Item = T>,
     >(&mut self, tag: u8, first: I, second: J) -> Result<(), EncodeError>
@@ -230,7 +230,7 @@ fn append_tagged<T: Encode + Drop, I: ExactSizeIterator<Item = T>>(
 
 /// Appends the byte `tag` and the lists of the items that two iterators yield. On error a part of it may remain.
 fn append_tagged_pair<
-    T: Encode + Drop,
+    T: EncodeShort + Drop,
     I: ExactSizeIterator<Item = T>,
     J: ExactSizeIterator<Item = T>,
 >(tag: u8, first: I, second: J, bytes: &mut Vec<u8>) -> Result<(), EncodeError>
@@ -244,11 +244,17 @@ fn append_tagged_pair<
         IsItemsRefusal T.CanEncode T.refuses J.next_gives J.remaining second e) }
     ensures kept { take (length bytes.old.items) bytes.new.items ≡ bytes.old.items }
 {
-    if u32::try_from(second.len()).is_err() {
+    let Ok(more) = u32::try_from(second.len()) else {
         return Err(EncodeError::TooLong);
-    }
-    append_tagged(tag, first, bytes)?;
-    append_items(second, bytes)
+    };
+    let Ok(many) = u32::try_from(first.len()) else {
+        return Err(EncodeError::TooLong);
+    };
+    let rest = 5 + 7 * more as usize;
+    bytes.reserve(6 + 7 * many as usize + rest)?;
+    bytes.push_reserved(tag);
+    append_short_items(first, many, rest, bytes)?;
+    append_short_items(second, more, 0, bytes)
 }
 
 /// The size of the body in bytes, the number of values, and the values (Core 3.0, Sections and Lists).

@@ -18,7 +18,7 @@ use wasm_codec::encode::EncodeError;
 use wasm_codec::input::Input;
 use wasm_codec::reader::cursor::Fault;
 use wasm_codec::reader::malformed::Construct;
-use wasm_lists::encode::Encode;
+use wasm_lists::encode::{Encode, EncodeShort};
 
 /// A value type (Core 3.0, Value Types).
 ///
@@ -231,6 +231,14 @@ impl Encode for ValType {
         sink.reserve(7)?;
         put_val_type(sink, *self);
         Ok(())
+    }
+}
+
+#[tactic(auto, using(crate::proofs::WrittenTypes::val_written))]
+impl EncodeShort for ValType {
+    #[inline(always)]
+    fn put<A: Allocator>(&self, sink: &mut Vec<u8, A>) {
+        put_val_type(sink, *self);
     }
 }
 
