@@ -1,5 +1,6 @@
 //! Encoded values, one after the other, with their number: sections that are lists are built in it (Core 3.0, Modules).
 ghost use Rattle.std.specs.Prelude.{◌≡◌, ◌++◌, ◌∷◌, ◌+◌, ◌^◌, ◌≤◌, ◌⊎◌, [], OnOk, OnErr, IfOk, IfErr, IsErrOf, length, take};
+ghost use Rattle.std.specs.Iterator.{IsFinite, size};
 ghost use Rattle.std.specs.List.{All, flat_map};
 ghost use Rattle.wasm_codec.specs.Encoding.{byte_list_bytes, CanEncodeList, IsCount, IsRefusal, OnlyTooLong};
 ghost use Rattle.wasm_lists.specs.Iterators.{IsItemsRefusal};
@@ -12,6 +13,9 @@ use std::alloc::{Allocator, Global};
 use std::marker::Model;
 use wasm_codec::encode::leb128::{put_u32, u32_len};
 use wasm_codec::encode::{EncodeError, keep_or_undo};
+
+/// The most items of a list that gets room for all of them at once. An iterator can tell more items than it yields.
+const SHORT_LIST: usize = 255;
 
 /// A list of encoded values.
 ///
@@ -244,12 +248,42 @@ fn append_tagged_pair<
         IsItemsRefusal T.CanEncode T.refuses J.next_gives J.remaining second e) }
     ensures kept { take (length bytes.old.items) bytes.new.items ≡ bytes.old.items }
 {
-    let Ok(more) = u32::try_from(second.len()) else {
+    let (many, more) = (first.len(), second.len());
+    if many <= SHORT_LIST && more <= SHORT_LIST {
+        return append_short_pair(tag, first, many as u32, second, more as u32, bytes);
+    }
+    if u32::try_from(more).is_err() {
         return Err(EncodeError::TooLong);
-    };
-    let Ok(many) = u32::try_from(first.len()) else {
-        return Err(EncodeError::TooLong);
-    };
+    }
+    append_tagged(tag, first, bytes)?;
+    append_items(second, bytes)
+}
+
+/// Appends the byte `tag` and the lists of the items that two iterators yield, each with its `len`. Asks for room once.
+/// On error a part of it may remain.
+#[inline(always)]
+fn append_short_pair<
+    T: EncodeShort + Drop,
+    I: ExactSizeIterator<Item = T>,
+    J: ExactSizeIterator<Item = T>,
+>(
+    tag: u8,
+    first: I,
+    many: u32,
+    second: J,
+    more: u32,
+    bytes: &mut Vec<u8>,
+) -> Result<(), EncodeError>
+    requires first { I.can_next first }
+    requires second { J.can_next second }
+    requires many { (many ≤ 255) × (IsFinite (I.remaining first) × (many ≡ size (I.remaining first))) }
+    requires more { (more ≤ 255) × (IsFinite (J.remaining second) × (more ≡ size (J.remaining second))) }
+    ensures ok { OnOk result (OfItems I.next_gives first (λ xs. OfItems J.next_gives second (λ ys.
+        (bytes.new.items ≡ bytes.old.items ++ tag ∷ (items_bytes T.bytes xs ++ items_bytes T.bytes ys))
+        × ((CanEncodeList T.CanEncode xs × All T.IsWritten xs) × (CanEncodeList T.CanEncode ys × All T.IsWritten ys))))) }
+    ensures refused { IfErr result (λ e. e ≡ Memory) }
+    ensures kept { take (length bytes.old.items) bytes.new.items ≡ bytes.old.items }
+{
     let rest = 5 + 7 * more as usize;
     bytes.reserve(6 + 7 * many as usize + rest)?;
     bytes.push_reserved(tag);
